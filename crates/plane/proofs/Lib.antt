@@ -1,0 +1,3 @@
+pub mod BitLaws
+pub mod LayoutLaws
+pub mod MemoryLaws
