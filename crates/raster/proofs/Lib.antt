@@ -1,0 +1,5 @@
+pub mod Pictures
+pub mod ClearLaws
+pub mod Confinement
+pub mod JoinLaws
+pub mod LineLaws

@@ -1,0 +1,6 @@
+//! Raster operations, and drawing by them inside a region of any plane.
+pub mod clear;
+pub mod join;
+pub mod line;
+pub mod operation;
+pub mod region;
