@@ -1,0 +1,4 @@
+pub mod Emulation
+pub mod Parameters
+pub mod Machine
+pub mod Restart

@@ -1,0 +1,23 @@
+//! Installing a terminal.
+ghost use mathlib.Core.Path.{_≡_};
+ghost use Rattle.terminal.specs.Install.{installed};
+use plane::memory::check_size;
+use refusal::Refusal;
+use state::setup::Setup;
+use state::setup::Size;
+use state::setup::Terminator;
+use state::terminal::Terminal;
+
+/// A new terminal for planes of this size. Terminators are 0 (nothing), 1 (CR) and 2 (CR EOT).
+pub fn install(width: usize, height: usize, terminator: u8) -> Result<Terminal, Refusal>
+    ensures { λ r. ⌜ r ≡ installed width height terminator ⌝ }
+{
+    check_size(width, height)?;
+    match Terminator::from_number(terminator) {
+        Some(terminator) => {
+            let size = Size { width: width as u16, height: height as u16 };
+            Ok(Terminal::new(Setup { size, terminator }))
+        }
+        None => Err(Refusal::Terminator),
+    }
+}
