@@ -26,7 +26,7 @@ abbrev pub is-escape : State → Bool
 is-escape Ground = false
 is-escape Escape = true
 is-escape (EscapeIntermediate first) = false
-is-escape (State.Sequence parameters) = false
+is-escape (State.Sequence list) = false
 is-escape AddressRow = false
 is-escape (AddressColumn row) = false
 

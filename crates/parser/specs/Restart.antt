@@ -6,7 +6,7 @@ use Rattle.parser.specs.Machine.{parsed}
 use Rattle.parser.specs.declared.emulation.Emulation.{Emulation}
 use Rattle.parser.specs.declared.emulation.Emulation.the-variants.{Vt52}
 use Rattle.parser.specs.declared.machine.State.{State}
-use Rattle.parser.specs.declared.machine.State.the-variants.{Ground, Escape}
+use Rattle.parser.specs.declared.machine.State.the-variants.{Ground}
 use Rattle.parser.specs.declared.machine.Dispatch.{Dispatch}
 use Rattle.parser.specs.declared.machine.Dispatch.the-variants.{Nothing}
 

@@ -5,11 +5,13 @@ ghost use Prim.Native.Nat.{ℕ};
 ghost use Rattle.std.specs.declared.result.Result.the-variants.{Err};
 ghost use Rattle.refusal.specs.declared.Refusal.the-variants.{Outside};
 ghost use Rattle.plane.specs.Picture.{Picture, has, put, asked, answered};
+
 mod bits;
 pub mod memory;
 pub mod packed;
 pub mod tiled;
 pub mod turned;
+
 use refusal::Refusal;
 
 /// One bit for each place of a size that never changes, however it lies in memory.

@@ -32,9 +32,17 @@ impl<'a> Packed<'a> {
         ensures picture { λ r. ⌜ held (rows (r .stride) (r .height)) (now (r .memory)) ≡ made-of-bytes width height (now (memory .entry)) ⌝ }
     {
         if check_bytes(width, height, memory.len()).is_err() {
-            return Packed { memory, stride: 0, height: 0 };
+            return Packed {
+                memory,
+                stride: 0,
+                height: 0,
+            };
         }
-        Packed { memory, stride: (width / 8) as u16, height: height as u16 }
+        Packed {
+            memory,
+            stride: (width / 8) as u16,
+            height: height as u16,
+        }
     }
 }
 
@@ -67,11 +75,19 @@ pub impl Plane for Packed<'_> as PackedPlane {
     ghost dark = { λ s x y out. held-dark (rows (s .stride) (s .height)) (now (s .memory)) x y out };
 
     fn width(&self) -> usize {
-        if self.has_room() { 8 * self.stride as usize } else { 0 }
+        if self.has_room() {
+            8 * self.stride as usize
+        } else {
+            0
+        }
     }
 
     fn height(&self) -> usize {
-        if self.has_room() { self.height as usize } else { 0 }
+        if self.has_room() {
+            self.height as usize
+        } else {
+            0
+        }
     }
 
     fn ask(&self, x: usize, y: usize) -> Result<bool, Refusal> {

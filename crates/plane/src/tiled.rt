@@ -31,9 +31,17 @@ impl<'a> Tiled<'a> {
         ensures picture { λ r. ⌜ held (tiles (r .across) (r .up)) (now (r .memory)) ≡ made-of-tiles width height (now (memory .entry)) ⌝ }
     {
         if check_tiles(width, height, memory.len()).is_err() {
-            return Tiled { memory, across: 0, up: 0 };
+            return Tiled {
+                memory,
+                across: 0,
+                up: 0,
+            };
         }
-        Tiled { memory, across: (width / 8) as u16, up: (height / 8) as u16 }
+        Tiled {
+            memory,
+            across: (width / 8) as u16,
+            up: (height / 8) as u16,
+        }
     }
 }
 
@@ -66,11 +74,19 @@ pub impl Plane for Tiled<'_> as TiledPlane {
     ghost dark = { λ s x y out. held-dark (tiles (s .across) (s .up)) (now (s .memory)) x y out };
 
     fn width(&self) -> usize {
-        if self.has_room() { 8 * self.across as usize } else { 0 }
+        if self.has_room() {
+            8 * self.across as usize
+        } else {
+            0
+        }
     }
 
     fn height(&self) -> usize {
-        if self.has_room() { 8 * self.up as usize } else { 0 }
+        if self.has_room() {
+            8 * self.up as usize
+        } else {
+            0
+        }
     }
 
     fn ask(&self, x: usize, y: usize) -> Result<bool, Refusal> {

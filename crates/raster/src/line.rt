@@ -43,7 +43,14 @@ fn toward(a: i16, b: i16, n: u32, i: u32) -> i16
 }
 
 /// Draws the line with source 1, every point clipped to the region by itself; its last point is left out on request.
-pub fn line<P: Plane>(plane: &mut P, region: Region, operation: Operation, from: Point, to: Point, last: bool)
+pub fn line<P: Plane>(
+    plane: &mut P,
+    region: Region,
+    operation: Operation,
+    from: Point,
+    to: Point,
+    last: bool,
+)
     ensures picture { λ _. ⌜ picture (now (plane .exit)) ≡ lined region operation from to last (picture (now (plane .entry))) ⌝ }
     ensures confined { λ _. ⌜ Confined (inside region) (lined region operation from to last) ⌝ }
     ensures composes { λ _. ⌜ Composes ⌝ }

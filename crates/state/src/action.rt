@@ -26,10 +26,17 @@ pub enum Action {
 fn draws(values: [i16; 8], last: u8) -> Action
     ensures { λ r. ⌜ r ≡ drawing-of values last ⌝ }
 {
-    let to = Point { x: values[0], y: values[1] };
+    let to = Point {
+        x: values[0],
+        y: values[1],
+    };
     match last {
-        b'm' => Action::Draw { drawing: Drawing::Move { to } },
-        b'd' => Action::Draw { drawing: Drawing::Line { to } },
+        b'm' => Action::Draw {
+            drawing: Drawing::Move { to },
+        },
+        b'd' => Action::Draw {
+            drawing: Drawing::Line { to },
+        },
         _ => Action::Nothing,
     }
 }
@@ -41,7 +48,11 @@ impl Action {
     {
         match dispatch {
             Dispatch::Escape { last } if last == b'c' => Action::Reset,
-            Dispatch::Sequence { introducer, values, last } if introducer == Introducer::Colon => draws(values, last),
+            Dispatch::Sequence {
+                introducer,
+                values,
+                last,
+            } if introducer == Introducer::Colon => draws(values, last),
             _ => Action::Nothing,
         }
     }

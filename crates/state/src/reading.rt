@@ -20,10 +20,16 @@ impl Terminal {
         let mut parser = self.parser;
         match byte {
             // NUL, DC1, DC3 and 128 to 255 do not disturb a sequence.
-            0 | 17 | 19 | 128..=255 => Reading { parser, action: Action::Nothing },
+            0 | 17 | 19 | 128..=255 => Reading {
+                parser,
+                action: Action::Nothing,
+            },
             _ => {
                 let dispatch = parser.step(self.emulation, byte);
-                Reading { parser, action: Action::of(dispatch) }
+                Reading {
+                    parser,
+                    action: Action::of(dispatch),
+                }
             }
         }
     }

@@ -18,8 +18,20 @@ impl Terminal {
         match drawing {
             Drawing::Move { to } => self.window.position = to,
             Drawing::Line { to } => {
-                let Window { area, position, pen, .. } = self.window;
-                line(plane, area, pen.drawing, position, to, self.modes.last_point);
+                let Window {
+                    area,
+                    position,
+                    pen,
+                    ..
+                } = self.window;
+                line(
+                    plane,
+                    area,
+                    pen.drawing,
+                    position,
+                    to,
+                    self.modes.last_point,
+                );
                 self.window.position = to;
             }
         }

@@ -30,7 +30,10 @@ pub struct Terminal {
 fn home(height: u16) -> Point
     ensures { λ r. ⌜ r ≡ home-of height ⌝ }
 {
-    Point { x: 0, y: height.saturating_sub(16).min(32767) as i16 }
+    Point {
+        x: 0,
+        y: height.saturating_sub(16).min(32767) as i16,
+    }
 }
 
 impl Terminal {
@@ -38,13 +41,25 @@ impl Terminal {
     pub fn new(setup: Setup) -> Terminal
         ensures { λ r. ⌜ r ≡ fresh setup ⌝ }
     {
-        let area = Region { left: 0, bottom: 0, width: setup.size.width, height: setup.size.height };
-        let pen = Pen { drawing: Operation::Copy };
+        let area = Region {
+            left: 0,
+            bottom: 0,
+            width: setup.size.width,
+            height: setup.size.height,
+        };
+        let pen = Pen {
+            drawing: Operation::Copy,
+        };
         Terminal {
             setup,
             emulation: Emulation::Native,
             modes: Modes { last_point: true },
-            window: Window { number: 0, area, position: home(setup.size.height), pen },
+            window: Window {
+                number: 0,
+                area,
+                position: home(setup.size.height),
+                pen,
+            },
             parser: Parser::new(),
         }
     }

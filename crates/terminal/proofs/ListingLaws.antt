@@ -57,7 +57,7 @@ module _ (p : Picture) (w : ℕ) where
   pub row-written : (whole before later line : List ℕ) (n y : ℕ) → n ≡ y + 1 → row-text p w y ≡ line → later ≡ before ++ line → before ++ rows p w n ≡ whole → later ++ rows p w y ≡ whole
   row-written whole before later line n y en el eb e =
       let down : rows p w n ≡ line ++ rows p w y =
-        let z : n - 1 ≡ y = omega arith in rows-down n (omega arith) ∙ ap (λ k. row-text p w k ++ rows p w k) z ∙ ap (λ t. t ++ rows p w y) el in
+      let z : n - 1 ≡ y = omega arith in rows-down n (omega arith) ∙ ap (λ k. row-text p w k ++ rows p w k) z ∙ ap (λ t. t ++ rows p w y) el in
       ap (λ t. t ++ rows p w y) eb ∙ append-assoc before line (rows p w y) ∙ ap (λ t. before ++ t) (sym down) ∙ e
 
 -- where a written part ends

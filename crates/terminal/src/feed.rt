@@ -13,11 +13,16 @@ use state::terminal::Terminal;
 pub(crate) fn sizes_agree<P: Plane>(terminal: &Terminal, plane: &P) -> bool
     ensures { λ r. ⌜ r ≡ same-size (seen (now (terminal .entry)) (picture (now (plane .entry)))) ⌝ }
 {
-    plane.width() == terminal.setup.size.width as usize && plane.height() == terminal.setup.size.height as usize
+    plane.width() == terminal.setup.size.width as usize
+        && plane.height() == terminal.setup.size.height as usize
 }
 
 /// Takes a delivery of host bytes, and answers how many it took.
-pub fn feed<P: Plane>(terminal: &mut Terminal, plane: &mut P, bytes: &[u8]) -> Result<usize, Refusal>
+pub fn feed<P: Plane>(
+    terminal: &mut Terminal,
+    plane: &mut P,
+    bytes: &[u8],
+) -> Result<usize, Refusal>
     ensures value { λ r. ⌜ r ≡ answer (seen (now (terminal .entry)) (picture (now (plane .entry)))) (now (bytes .entry)) ⌝ }
     ensures after { λ _. ⌜ seen (now (terminal .exit)) (picture (now (plane .exit))) ≡ fed (seen (now (terminal .entry)) (picture (now (plane .entry)))) (now (bytes .entry)) ⌝ }
     ensures same { λ r. ⌜ (r ≡ Err PlaneSize → now (plane .exit) ≡ now (plane .entry)) ⌝ }

@@ -21,7 +21,11 @@ impl Ink {
         ensures { λ r. ⌜ r ≡ one-more x self ⌝ }
     {
         let first = if self.count == 0 { x } else { self.first };
-        Ink { first, last: x, count: self.count + 1 }
+        Ink {
+            first,
+            last: x,
+            count: self.count + 1,
+        }
     }
 }
 
@@ -39,7 +43,11 @@ fn is_set<P: Plane>(plane: &P, x: u16, y: u16) -> bool
 pub(crate) fn ink_of_row<P: Plane>(plane: &P, width: u16, y: u16) -> Ink
     ensures { λ r. ⌜ r ≡ inked (row (picture (now (plane .entry))) y) width ⌝ }
 {
-    let mut ink = Ink { first: 0, last: 0, count: 0 };
+    let mut ink = Ink {
+        first: 0,
+        last: 0,
+        count: 0,
+    };
     for x in 0..width {
         if is_set(plane, x, y) {
             ink = ink.and(x);

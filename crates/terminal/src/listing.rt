@@ -4,6 +4,7 @@ ghost use mathlib.Core.List.{_++_};
 ghost use Prim.Native.Nat.{_+_, _≤_};
 ghost use lib.Dec.{leb};
 ghost use lib.ListN.{length, take, drop};
+ghost use Rattle.std.specs.Vec.{made};
 ghost use Rattle.columns.specs.Line.{text-of};
 ghost use Rattle.state.specs.Step.{seen};
 ghost use Rattle.terminal.specs.Ink.{Bounded};
@@ -26,7 +27,12 @@ use state::terminal::Terminal;
 fn row_line(y: u16, ink: Ink) -> Line
     ensures { λ r. ⌜ r ≡ line-of-ink y ink ⌝ }
 {
-    Line { first: Number::from(y), second: Number::from(ink.first), third: Number::from(ink.last), fourth: Number::from(ink.count) }
+    Line {
+        first: Number::from(y),
+        second: Number::from(ink.first),
+        third: Number::from(ink.last),
+        fourth: Number::from(ink.count),
+    }
 }
 
 // The last line: the position, the emulation and the region.
@@ -36,7 +42,12 @@ fn last_line(terminal: &Terminal) -> Line
     let position = terminal.window.position;
     let emulation = terminal.emulation.number() as u16;
     let region = terminal.window.number as u16;
-    Line { first: Number::from(position.x), second: Number::from(position.y), third: Number::from(emulation), fourth: Number::from(region) }
+    Line {
+        first: Number::from(position.x),
+        second: Number::from(position.y),
+        third: Number::from(emulation),
+        fourth: Number::from(region),
+    }
 }
 
 // Writes a line where there is room for it.
@@ -73,13 +84,19 @@ fn put_rows<P: Plane>(plane: &P, size: Size, buffer: &mut [u8]) -> usize
 fn has_room<P: Plane>(plane: &P, size: Size, room: usize) -> bool
     ensures { λ r. ⌜ r ≡ leb (length (rows-of (picture (now (plane .entry))) (size .width) (size .height)) + 25) room ⌝ }
 {
-    LENGTH * (size.height as usize + 1) <= room || LENGTH * (inked_rows(plane, size) as usize + 1) <= room
+    LENGTH * (size.height as usize + 1) <= room
+        || LENGTH * (inked_rows(plane, size) as usize + 1) <= room
 }
 
 /// Writes the listing into the buffer and answers its length.
-pub fn listing<P: Plane>(terminal: &Terminal, plane: &P, buffer: &mut [u8]) -> Result<usize, Refusal>
+pub fn listing<P: Plane>(
+    terminal: &Terminal,
+    plane: &P,
+    buffer: &mut [u8],
+) -> Result<usize, Refusal>
     ensures value { λ r. ⌜ r ≡ answer (seen (now (terminal .entry)) (picture (now (plane .entry)))) (length (now (buffer .entry))) ⌝ }
     ensures buffer { λ _. ⌜ now (buffer .exit) ≡ written (seen (now (terminal .entry)) (picture (now (plane .entry)))) (now (buffer .entry)) ⌝ }
+    ensures within { λ r. ⌜ made r (λ n. n ≤ length (now (buffer .entry))) ⌝ }
     ensures bounded { λ _. ⌜ Bounded ⌝ }
 {
     if !sizes_agree(terminal, plane) {

@@ -34,7 +34,7 @@ returns g c =
     let f3 : SFits w16 (a .to .x) = search needs in
     let f4 : SFits w16 (a .to .y) = search needs in
     let count : c .if-last .count ≡ cond (a .last) (n + 1) n =
-      elim (c .if-last .came) [ then-last w ↦ rw (w .if-last .taken) (w .count-is) | else-last w ↦ rw (w .if-last .left) (w .count-is) ] in
+    elim (c .if-last .came) [ then-last w ↦ rw (w .if-last .taken) (w .count-is) | else-last w ↦ rw (w .if-last .left) (w .count-is) ] in
     let all : c .loop-i .i ≡ cond (a .last) (n + 1) n = let e : c .loop-i .i ≡ c .if-last .count = omega arith in e ∙ count in
     record {
       picture = c .loop-i .inv ∙ line-all (g .P·Plane .picture (a .plane .now)) (a .region) (a .operation) (a .from) (a .to) n (c .abs-diff .result) (c .abs-diff-2 .result) (c .loop-i .i) (a .last) (c .max-n .ensures) (simp toZ-ofZ at (c .abs-diff .ensures)) (simp toZ-ofZ at (c .abs-diff-2 .ensures)) all;

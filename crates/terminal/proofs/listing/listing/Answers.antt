@@ -15,13 +15,13 @@ pub returns-then-not-sizes-agree : need.returns-then-not-sizes-agree
 returns-then-not-sizes-agree g c =
     let s = seen (c .args .terminal .now) (g .P·Plane .picture (c .args .plane .now)) in
     let q = unlike s (c .args .buffer .now) (sym (c .if-not-sizes-agree .ensures tt)) in
-    record { value = q .0; buffer = q .1; bounded = bounded }
+    record { value = q .0; buffer = q .1; within = tt; bounded = bounded }
 
 pub returns-then-not-has-room : need.returns-then-not-has-room
 returns-then-not-has-room g c =
     let s = seen (c .args .terminal .now) (g .P·Plane .picture (c .args .plane .now)) in
     let q = tight s (c .args .buffer .now) (sym (c .if-not-sizes-agree .ensures tt)) (sym (c .if-not-has-room .ensures tt)) in
-    record { value = q .0; buffer = q .1; bounded = bounded }
+    record { value = q .0; buffer = q .1; within = tt; bounded = bounded }
 
 pub returns : need.returns
 returns g c =
@@ -30,4 +30,4 @@ returns g c =
     let above = c .put-rows-at .ensures in
     let below = c .put .ensures in
     let all = all-written s (c .args .buffer .now) (c .put-rows-at .last .buffer) (c .put .last .buffer) (c .put-rows-at .result) (above .end) (above .text) (above .rest) (below .text ∙ ap (λ l. take (c .put-rows-at .result) (c .put-rows-at .last .buffer) ++ text-of l) (c .last-line .ensures)) (below .rest) in
-    record { value = ap Ok (below .end ∙ ap (λ n. n + 25) (above .end)) ∙ q .0; buffer = all ∙ q .1; bounded = bounded }
+    record { value = ap Ok (below .end ∙ ap (λ n. n + 25) (above .end)) ∙ q .0; buffer = all ∙ q .1; within = omega (arith, below .end, above .end, leb-true _ _ (sym (c .if-not-has-room .ensures tt))); bounded = bounded }
