@@ -18,20 +18,10 @@ impl Terminal {
         match drawing {
             Drawing::Move { to } => self.window.position = to,
             Drawing::Line { to } => {
-                let Window {
-                    area,
-                    position,
-                    pen,
-                    ..
-                } = self.window;
-                line(
-                    plane,
-                    area,
-                    pen.drawing,
-                    position,
-                    to,
-                    self.modes.last_point,
-                );
+                let Window { area, pen, .. } = self.window;
+                let from = self.window.position;
+                let last = self.modes.last_point;
+                line(plane, area, pen.drawing, from, to, last);
                 self.window.position = to;
             }
         }
