@@ -1,38 +1,39 @@
 -- Clearing, one place and one row more.
-use mathlib.Core.Path.{_≡_, refl, sym, ap, _∙_}
-use mathlib.Core.Logic.{inl, inr}
+use mathlib.Core.Path.{_≡_, refl}
 use mathlib.Core.Bool.{Bool, true, false, cond, _&&_}
-use Prim.Native.Nat.{ℕ, _+_, _≤_}
+use Prim.Native.Nat.{ℕ, _+_, _≤_, max}
 use native.Mathlib.Omega.{arith}
-use lib.Dec.{eqb, ltb}
-use Rattle.std.proofs.shelf.Tests.{cases-bool}
+use lib.Dec.{eqb, leb, ltb}
 use Rattle.std.proofs.shelf.Ways.{tells}
 use Rattle.plane.specs.Picture.{Picture, has, put}
-use Rattle.raster.specs.Clear.{without, row-cleared, cleared}
+use Rattle.raster.specs.declared.region.Region.{Region}
+use Rattle.raster.specs.Region.{among}
+use Rattle.raster.specs.Clear.{without, row-of, cleared}
 use Rattle.raster.proofs.Pictures.{agree}
 
-module _ (p : Picture) where
-  pub no-place : (y : ℕ) → p ≡ without (λ u v. eqb v y && ltb u 0) p
+-- the places of row y from a on and before x
+abbrev pub part : ℕ → ℕ → ℕ → ℕ → ℕ → Bool
+part a x y u v = (leb a u && ltb u x) && eqb v y
+
+-- the rows of the region before y
+abbrev pub lower : Region → ℕ → ℕ → ℕ → Bool
+lower r y u v = among (r .left) (r .width) u && (leb (r .bottom) v && ltb v y)
+
+module _ (p : Picture) (r : Region) where
+  pub no-place : (y : ℕ) → p ≡ without (part (r .left) (r .left) y) p
   no-place y = agree p _ _ (λ u v. grind (arith, tells))
 
-  pub place-more : (x y : ℕ) → put x y false (without (λ u v. eqb v y && ltb u x) p) ≡ without (λ u v. eqb v y && ltb u (x + 1)) p
-  place-more x y = agree p _ _ (λ u v. grind (arith, tells))
+  pub place-more : (x y : ℕ) → r .left ≤ x → put x y false (without (part (r .left) x y) p) ≡ without (part (r .left) (x + 1) y) p
+  place-more x y le = agree p _ _ (λ u v. grind (arith, tells))
 
-  pub row-all : (x y : ℕ) → p .wide ≤ x → without (λ u v. eqb v y && ltb u x) p ≡ row-cleared y p
-  row-all x y le = agree p _ _ (λ u v. grind (arith, tells))
+  pub row-all : (x y : ℕ) → x ≡ r .left + r .width → without (part (r .left) x y) p ≡ without (row-of r y) p
+  row-all x y e = rw e refl
 
-  pub no-row : p ≡ without (λ u v. ltb v 0) p
+  pub no-row : p ≡ without (lower r (r .bottom)) p
   no-row = agree p _ _ (λ u v. grind (arith, tells))
 
-  pub row-more : (y : ℕ) → row-cleared y (without (λ u v. ltb v y) p) ≡ without (λ u v. ltb v (y + 1)) p
-  row-more y = agree p _ _ (λ u v. grind (arith, tells))
+  pub row-more : (y : ℕ) → r .bottom ≤ y → without (row-of r y) (without (lower r y) p) ≡ without (lower r (y + 1)) p
+  row-more y le = agree p _ _ (λ u v. grind (arith, tells))
 
-  pub rows-all : (y : ℕ) → ((u v : ℕ) → has p u v ≡ false → p .at u v ≡ false) → p .high ≤ y → without (λ u v. ltb v y) p ≡ cleared p
-  rows-all y dark le = agree p _ _ point
-    where
-      point : (u v : ℕ) → cond (has p u v && ltb v y) false (p .at u v) ≡ false
-      point u v =
-          elim (cases-bool (has p u v)) [
-            | inl e ↦ grind (arith, tells)
-            | inr e ↦ let d = dark u v e in grind (arith, tells)
-          ]
+  pub rows-all : (y : ℕ) → y ≡ r .bottom + r .height → without (lower r y) p ≡ cleared r p
+  rows-all y e = rw e refl

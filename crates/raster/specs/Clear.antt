@@ -1,15 +1,19 @@
--- Pictures with rows or all of their bits 0.
+-- Pictures of which some places are cleared.
 use mathlib.Core.Bool.{Bool, false, cond, _&&_}
 use Prim.Native.Nat.{ℕ}
-use lib.Dec.{eqb, ltb}
+use lib.Dec.{eqb}
 use Rattle.plane.specs.Picture.{Picture, has, with-bits}
+use Rattle.raster.specs.declared.region.Region.{Region}
+use Rattle.raster.specs.Region.{among, painted}
 
 -- the places that pass the test become 0
 abbrev pub without : (ℕ → ℕ → Bool) → Picture → Picture
 without o p = with-bits p (λ u v. cond (has p u v && o u v) false (p .at u v))
 
-abbrev pub row-cleared : ℕ → Picture → Picture
-row-cleared y = without (λ u v. eqb v y)
+-- the places of row y that lie in the columns of the region
+abbrev pub row-of : Region → ℕ → ℕ → ℕ → Bool
+row-of r y u v = among (r .left) (r .width) u && eqb v y
 
-abbrev pub cleared : Picture → Picture
-cleared p = with-bits p (λ _ _. false)
+-- every pixel of the region is 0
+abbrev pub cleared : Region → Picture → Picture
+cleared r = painted r (λ _ _ _. false)

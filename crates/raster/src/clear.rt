@@ -1,22 +1,28 @@
-//! Every pixel of a plane to 0.
+//! Every pixel of a region to 0.
 ghost use mathlib.Core.Path.{_≡_};
-ghost use Rattle.raster.specs.Clear.{row-cleared, cleared};
+ghost use Rattle.raster.specs.Region.{inside};
+ghost use Rattle.raster.specs.Clear.{without, row-of, cleared};
+ghost use Rattle.raster.specs.Confined.{Confined};
+use crate::region::Region;
 use plane::Plane;
 
-// Clears row y.
-fn clear_row<P: Plane>(plane: &mut P, y: usize)
-    ensures { λ _. ⌜ picture (now (plane .exit)) ≡ row-cleared y (picture (now (plane .entry))) ⌝ }
+// Clears row v of the region.
+fn clear_row<P: Plane>(plane: &mut P, region: Region, v: usize)
+    ensures { λ _. ⌜ picture (now (plane .exit)) ≡ without (row-of region v) (picture (now (plane .entry))) ⌝ }
 {
-    for x in 0..plane.width() {
-        let _ = plane.set(x, y, false);
+    let left = region.left as usize;
+    for u in left..left + region.width as usize {
+        let _ = plane.set(u, v, false);
     }
 }
 
-/// Clears the whole plane.
-pub fn clear<P: Plane>(plane: &mut P)
-    ensures { λ _. ⌜ picture (now (plane .exit)) ≡ cleared (picture (now (plane .entry))) ⌝ }
+/// Clears the region, where it lies in the plane.
+pub fn clear<P: Plane>(plane: &mut P, region: Region)
+    ensures picture { λ _. ⌜ picture (now (plane .exit)) ≡ cleared region (picture (now (plane .entry))) ⌝ }
+    ensures confined { λ _. ⌜ Confined (inside region) (cleared region) ⌝ }
 {
-    for y in 0..plane.height() {
-        clear_row(plane, y);
+    let bottom = region.bottom as usize;
+    for v in bottom..bottom + region.height as usize {
+        clear_row(plane, region, v);
     }
 }

@@ -1,5 +1,8 @@
 pub mod Action
+pub mod Event
 pub mod Reading
+pub mod Reply
 pub mod Setup
+pub mod Size
 pub mod Step
 pub mod Terminal

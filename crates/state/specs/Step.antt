@@ -1,46 +1,65 @@
--- A terminal with its picture, and what a host byte makes of them.
-use Prim.Native.Nat.{ℕ}
-use mathlib.Core.List.{List, [], _∷_}
+-- The rules as tables over actions: the state, the picture and the waiting strokes after each, and what it replies.
+-- State and replies are never handed the picture.
+use mathlib.Core.Bool.{true, false}
+use mathlib.Core.List.{List, [], _∷_, _++_}
+use Rattle.keyboard.specs.declared.stroke.Stroke.{Stroke}
 use Rattle.plane.specs.Picture.{Picture}
 use Rattle.raster.specs.Clear.{cleared}
 use Rattle.raster.specs.Line.{lined}
 use Rattle.state.specs.declared.action.Action.{Action}
-use Rattle.state.specs.declared.action.Action.the-variants.{Nothing, Draw, Reset}
+use Rattle.state.specs.declared.action.Action.the-variants.{Nothing, Control, Draw, Gin, Key, Aim}
+use Rattle.state.specs.declared.action.Control.the-variants.{Lock, Unlock, Acknowledge, Report, Reset}
 use Rattle.state.specs.declared.action.Drawing.the-variants.{Move, Line}
+use Rattle.state.specs.declared.action.GinAction.{GinAction}
+use Rattle.state.specs.declared.action.GinAction.the-variants.{Enter, Begin, Lose, Leave}
+use Rattle.state.specs.declared.action.KeyAction.{KeyAction}
+use Rattle.state.specs.declared.action.KeyAction.the-variants.{Hold}
+use Rattle.state.specs.declared.terminal.Gin.the-variants.{Off, On, AfterEscape}
 use Rattle.state.specs.declared.terminal.Terminal.{Terminal}
-use Rattle.state.specs.Reading.{read}
-use Rattle.state.specs.Terminal.{new, with-parser, with-position}
+use Rattle.state.specs.Terminal.{whole, renewed, with-position, with-locked, with-pointer, with-gin}
 
--- the state after an action
 abbrev pub state-after : Terminal → Action → Terminal
 state-after t Nothing = t
+state-after t (Control Lock) = with-locked true t
+state-after t (Control Unlock) = with-locked false t
+state-after t (Control Acknowledge) = t
+state-after t (Control Report) = t
+state-after t (Control Reset) = renewed t
 state-after t (Draw (Move to)) = with-position to t
 state-after t (Draw (Line to)) = with-position to t
-state-after t Reset = new (t .setup)
+state-after t (Gin Enter) = with-gin On t
+state-after t (Gin Begin) = with-gin AfterEscape t
+state-after t (Gin Lose) = with-gin On t
+state-after t (Gin Leave) = with-gin Off t
+state-after t (Gin GinAction.Report) = with-gin Off t
+state-after t (Gin (GinAction.Send k)) = with-gin Off t
+state-after t (Key (Hold k)) = t
+state-after t (Key (KeyAction.Send k)) = t
+state-after t (Aim p) = with-pointer p t
 
--- the picture after an action: a line runs from the position with the drawing operation, inside the region
+-- a line runs from the position with the drawing operation, inside the region; all new means that every pixel is 0
 abbrev pub picture-after : Terminal → Action → Picture → Picture
 picture-after t Nothing p = p
+picture-after t (Control Lock) p = p
+picture-after t (Control Unlock) p = p
+picture-after t (Control Acknowledge) p = p
+picture-after t (Control Report) p = p
+picture-after t (Control Reset) p = cleared (whole (t .setup)) p
 picture-after t (Draw (Move to)) p = p
 picture-after t (Draw (Line to)) p = lined (t .window .area) (t .window .pen .drawing) (t .window .position) to (t .modes .«last_point») p
-picture-after t Reset p = cleared p
+picture-after t (Gin g) p = p
+picture-after t (Key k) p = p
+picture-after t (Aim a) p = p
 
--- a terminal and the picture on its plane
-pub record Seen : Type 0 where
-  pub terminal : Terminal
-  pub picture : Picture
-
-abbrev pub seen : Terminal → Picture → Seen
-seen t p = record { terminal = t; picture = p }
-
-abbrev pub acted : Action → Seen → Seen
-acted a s = seen (state-after (s .terminal) a) (picture-after (s .terminal) a (s .picture))
-
--- what one host byte makes of them: it is read, the parser goes on, and the action is done
-abbrev pub next : Seen → ℕ → Seen
-next s b = acted (read (s .terminal) b .action) (seen (with-parser (read (s .terminal) b .parser) (s .terminal)) (s .picture))
-
--- what the host bytes make of them, one by one
-abbrev pub after : Seen → List ℕ → Seen
-after s [] = s
-after s (b ∷ bs) = after (next s b) bs
+abbrev pub strokes-after : List Stroke → Action → List Stroke
+strokes-after ks Nothing = ks
+strokes-after ks (Control Lock) = ks
+strokes-after ks (Control Unlock) = []
+strokes-after ks (Control Acknowledge) = ks
+strokes-after ks (Control Report) = ks
+strokes-after ks (Control Reset) = ks
+strokes-after ks (Draw d) = ks
+strokes-after ks (Gin g) = ks
+strokes-after ks (Key (Hold k)) = ks ++ (k ∷ [])
+strokes-after ks (Key (KeyAction.Send k)) = ks
+strokes-after ks (Aim a) = ks

@@ -2,6 +2,7 @@
 pub mod action;
 pub mod reading;
 pub mod setup;
+pub mod size;
 pub mod step;
 pub mod terminal;
 pub mod window;

@@ -1,9 +1,10 @@
 //! The state of a terminal.
 ghost use mathlib.Core.Path.{_≡_};
-ghost use Rattle.state.specs.Terminal.{new as fresh, home as home-of};
+ghost use Rattle.state.specs.Terminal.{new as fresh, renewed, home as home-of};
 use crate::setup::Setup;
 use crate::window::Pen;
 use crate::window::Window;
+use keyboard::modes::KeyModes;
 use parser::emulation::Emulation;
 use parser::machine::Parser;
 use raster::operation::Operation;
@@ -15,6 +16,22 @@ use raster::region::Region;
 pub struct Modes {
     /// Whether a line's last point is drawn.
     pub last_point: bool,
+    pub keys: KeyModes,
+}
+
+/// A place of the plane, counted from its lower left.
+#[derive(Clone, Copy)]
+pub struct Place {
+    pub x: u16,
+    pub y: u16,
+}
+
+/// Graphics input: the host has asked for the pointer's place, and perhaps begun a sequence.
+#[derive(Clone, Copy)]
+pub enum Gin {
+    Off,
+    On,
+    AfterEscape,
 }
 
 #[derive(Clone, Copy)]
@@ -23,6 +40,10 @@ pub struct Terminal {
     pub emulation: Emulation,
     pub modes: Modes,
     pub window: Window,
+    /// Whether strokes wait for the host.
+    pub locked: bool,
+    pub pointer: Place,
+    pub gin: Gin,
     pub parser: Parser,
 }
 
@@ -41,26 +62,48 @@ impl Terminal {
     pub fn new(setup: Setup) -> Terminal
         ensures { λ r. ⌜ r ≡ fresh setup ⌝ }
     {
+        let Setup { size, .. } = setup;
         let area = Region {
             left: 0,
             bottom: 0,
-            width: setup.size.width,
-            height: setup.size.height,
+            width: size.width,
+            height: size.height,
         };
+        let position = home(size.height);
         let pen = Pen {
             drawing: Operation::Copy,
         };
         Terminal {
             setup,
             emulation: Emulation::Native,
-            modes: Modes { last_point: true },
+            modes: Modes {
+                last_point: true,
+                keys: KeyModes {
+                    cursor_keys: false,
+                    keypad_application: false,
+                },
+            },
             window: Window {
                 number: 0,
                 area,
-                position: home(setup.size.height),
+                position,
                 pen,
             },
+            locked: false,
+            pointer: Place { x: 0, y: 0 },
+            gin: Gin::Off,
             parser: Parser::new(),
         }
+    }
+
+    /// All new but the pointer and the lock.
+    pub fn renew(&mut self)
+        ensures { λ _. ⌜ now (self .exit) ≡ renewed (now (self .entry)) ⌝ }
+    {
+        let locked = self.locked;
+        let pointer = self.pointer;
+        *self = Terminal::new(self.setup);
+        self.locked = locked;
+        self.pointer = pointer;
     }
 }

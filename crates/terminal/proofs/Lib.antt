@@ -1,3 +1,4 @@
-pub mod Bytes
-pub mod InkLaws
-pub mod ListingLaws
+pub mod KeyLaws
+pub mod ReplyLaws
+pub mod SizeLaws
+pub mod WorkLaws

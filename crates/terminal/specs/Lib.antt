@@ -1,5 +1,4 @@
-pub mod Cut
-pub mod Feed
-pub mod Ink
 pub mod Install
-pub mod Listing
+pub mod Key
+pub mod Reply
+pub mod Work

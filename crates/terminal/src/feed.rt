@@ -1,38 +1,46 @@
-//! Feeding host bytes.
+//! A delivery of host bytes.
 ghost use mathlib.Core.Path.{_≡_};
-ghost use Rattle.std.specs.declared.result.Result.the-variants.{Err};
-ghost use Rattle.refusal.specs.declared.Refusal.the-variants.{PlaneSize};
-ghost use Rattle.state.specs.Step.{seen};
-ghost use Rattle.terminal.specs.Feed.{matches as same-size, answer, fed};
-ghost use Rattle.terminal.specs.Cut.{Cut};
+ghost use mathlib.Core.Bool.{true};
+ghost use Rattle.std.specs.Results.{isErr};
+ghost use Rattle.queue.specs.Waiting.{waiting, places};
+ghost use Rattle.runs.specs.Calls.{Fed};
+ghost use Rattle.runs.specs.Set.{set-of};
+use crate::refusals::refusal_of;
+use crate::work::Shortage;
+use crate::work::work;
+use keyboard::stroke::Stroke;
+use line::Line;
 use plane::Plane;
+use queue::Queue;
 use refusal::Refusal;
+use runs::delivery::Delivery;
 use state::terminal::Terminal;
 
-// Whether the plane has the terminal's size.
-pub(crate) fn sizes_agree<P: Plane>(terminal: &Terminal, plane: &P) -> bool
-    ensures { λ r. ⌜ r ≡ same-size (seen (now (terminal .entry)) (picture (now (plane .entry)))) ⌝ }
-{
-    plane.width() == terminal.setup.size.width as usize
-        && plane.height() == terminal.setup.size.height as usize
-}
-
-/// Takes a delivery of host bytes, and answers how many it took.
-pub fn feed<P: Plane>(
+/// Takes host bytes one by one, until one whose reply finds no room in the line.
+pub fn feed<P: Plane, L: Line>(
     terminal: &mut Terminal,
+    face: &[u8],
     plane: &mut P,
+    line: &mut L,
+    strokes: &mut Queue<'_, Stroke>,
     bytes: &[u8],
-) -> Result<usize, Refusal>
-    ensures value { λ r. ⌜ r ≡ answer (seen (now (terminal .entry)) (picture (now (plane .entry)))) (now (bytes .entry)) ⌝ }
-    ensures after { λ _. ⌜ seen (now (terminal .exit)) (picture (now (plane .exit))) ≡ fed (seen (now (terminal .entry)) (picture (now (plane .entry)))) (now (bytes .entry)) ⌝ }
-    ensures same { λ r. ⌜ (r ≡ Err PlaneSize → now (plane .exit) ≡ now (plane .entry)) ⌝ }
-    ensures cut { λ _. ⌜ Cut ⌝ }
+) -> Result<Delivery, Refusal>
+    ensures fed { λ r. ⌜ Fed (set-of (now (terminal .entry)) (now (face .entry)) (picture (now (plane .entry))) (waiting (now (strokes .entry))) (places (now (strokes .entry))) (carried (now (line .entry)))) (now (bytes .entry)) r (set-of (now (terminal .exit)) (now (face .entry)) (picture (now (plane .exit))) (waiting (now (strokes .exit))) (places (now (strokes .exit))) (carried (now (line .exit)))) ⌝ }
+    ensures plane { λ r. ⌜ (isErr r ≡ true → now (plane .exit) ≡ now (plane .entry)) ⌝ }
+    ensures line { λ r. ⌜ (isErr r ≡ true → now (line .exit) ≡ now (line .entry)) ⌝ }
+    ensures strokes { λ r. ⌜ (isErr r ≡ true → now (strokes .exit) ≡ now (strokes .entry)) ⌝ }
 {
-    if !sizes_agree(terminal, plane) {
-        return Err(Refusal::PlaneSize);
+    if let Some(refusal) = refusal_of(terminal, face, plane, line, strokes) {
+        return Err(refusal);
     }
+    let mut taken = 0;
     for byte in bytes {
-        terminal.step(plane, *byte);
+        let reading = terminal.read(*byte);
+        if let Err(shortage) = work(terminal, plane, strokes, line, reading) {
+            let Shortage { need, room } = shortage;
+            return Ok(Delivery::Stopped { taken, need, room });
+        }
+        taken += 1;
     }
-    Ok(bytes.len())
+    Ok(Delivery::Whole { taken })
 }

@@ -1,5 +1,8 @@
-//! The calls: install a terminal, feed it host bytes, list its picture.
+//! The calls of a session: install a terminal, feed it host bytes, strike keys, aim the pointer.
 pub mod feed;
-pub mod ink;
 pub mod install;
-pub mod listing;
+pub mod key;
+pub mod point;
+mod refusals;
+mod reply;
+mod work;

@@ -1,16 +1,22 @@
+use mathlib.Core.Bool.{false}
 use mathlib.Core.Path.{ap, _∙_}
 use native.Mathlib.Omega.{arith}
-use Rattle.raster.specs.Clear.{row-cleared}
+use Rattle.raster.specs.Clear.{without, row-of}
 use Rattle.raster.proofs.ClearLaws.{no-row, row-more, rows-all}
+use Rattle.raster.proofs.Confinement.{confined-painted}
 use Rattle.raster.proofs.clear.clear.Needs as need
 
-pub loop-y-holds : need.loop-y-holds
-loop-y-holds g c = no-row (g .P·Plane .picture (c .args .plane .now))
+pub loop-v-holds : need.loop-v-holds
+loop-v-holds g c = (omega arith, no-row (g .P·Plane .picture (c .args .plane .now)) (c .args .region))
 
-pub loop-y-again : need.loop-y-again
-loop-y-again g c =
-    let l = c .loop-y in
-    c .clear-row .ensures ∙ ap (row-cleared (l .y)) (l .inv) ∙ row-more (g .P·Plane .picture (c .args .plane .now)) (l .y)
+pub loop-v-again : need.loop-v-again
+loop-v-again g c =
+    let l = c .loop-v in
+    let r = c .args .region in
+    (omega arith, c .clear-row .ensures ∙ ap (without (row-of r (l .v))) (l .inv .1) ∙ row-more (g .P·Plane .picture (c .args .plane .now)) r (l .v) (omega arith))
 
 pub returns : need.returns
-returns g c = c .loop-y .inv ∙ rows-all (g .P·Plane .picture (c .args .plane .now)) (c .loop-y .y) (g .P·Plane .dark (c .args .plane .now)) (omega arith)
+returns g c = record {
+  picture = c .loop-v .inv .1 ∙ rows-all (g .P·Plane .picture (c .args .plane .now)) (c .args .region) (c .loop-v .v) (omega arith);
+  confined = confined-painted (c .args .region) (λ _ _ _. false);
+}

@@ -1,9 +1,10 @@
 use mathlib.Core.Path.{_≡_}
-use lib.Dec.{ltb}
+use Prim.Native.Nat.{_≤_}
 use Rattle.raster.specs.Clear.{without}
+use Rattle.raster.proofs.ClearLaws.{lower}
 use Rattle.raster.proofs.clear.clear.Given as given
 
-abbrev pub Inv-loop-y : given.InvT-loop-y
-Inv-loop-y g l =
+abbrev pub Inv-loop-v : given.InvT-loop-v
+Inv-loop-v g l =
     let pic = g .P·Plane .picture in
-    pic (l .plane) ≡ without (λ u v. ltb v (l .y)) (pic (l .entry .plane))
+    (l .v ≤ l .v-end) × (pic (l .plane) ≡ without (lower (l .region) (l .v)) (pic (l .entry .plane)))

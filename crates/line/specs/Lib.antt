@@ -1,0 +1,5 @@
+pub mod ByteWire
+pub mod Content
+pub mod PacketWire
+pub mod Transfer
+pub mod Wire

@@ -1,0 +1,9 @@
+pub mod Choice
+pub mod Tracks
+pub mod Confine
+pub mod Sizes
+pub mod ReplyBound
+pub mod Sound
+pub mod Steps
+pub mod Recalling
+pub mod Laws

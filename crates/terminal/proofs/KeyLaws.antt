@@ -1,0 +1,47 @@
+-- What a stroke that is not refused has.
+use mathlib.Core.Path.{_≡_, refl, sym, ap, _∙_}
+use mathlib.Core.Bool.{Bool, true, false, cond, not, _&&_, _||_}
+use Prim.Native.Nat.{ℕ, _<_, _≤_}
+use native.Mathlib.Omega.{arith}
+use lib.Dec.{ltb, leb}
+use Rattle.std.specs.declared.option.Option.{Option}
+use Rattle.std.specs.declared.option.Option.the-variants.{Some, None}
+use Rattle.std.proofs.shelf.Tests.{leb-false, lt-ltb}
+use Rattle.std.proofs.shelf.Ways.{tells}
+use Rattle.keyboard.specs.declared.stroke.Stroke.{Stroke}
+use Rattle.refusal.specs.declared.Refusal.{Refusal}
+use Rattle.refusal.specs.declared.Refusal.the-variants.{Key, QueueFull}
+use Rattle.runs.specs.Calls.{first-of, in-gin}
+use Rattle.runs.specs.Set.{Set, refusal}
+use Rattle.state.specs.declared.terminal.Gin.{Gin}
+use Rattle.state.specs.declared.terminal.Gin.the-variants.{Off, On, AfterEscape}
+use Rattle.state.specs.declared.terminal.Terminal.{Terminal}
+use Rattle.state.specs.Reading.{stroke-action}
+use Rattle.terminal.specs.Key.{own-refusal}
+use Rattle.terminal.specs.Work.{Holds}
+
+-- a refusal is none
+some-none : {X : Type 0} {r : Refusal} → _≡_ {A = Option Refusal} (Some r) None → X
+some-none e = absurd (let z : _≡_ {A = ℕ} 0 1 = cc in omega arith)
+
+holds : (gin : Gin) (locked high : Bool) (k : Stroke) (waits places : ℕ) → cond high (Some Key) (cond ((locked && not (in-gin gin)) && leb places waits) (Some QueueFull) None) ≡ None → Holds (stroke-action gin locked k) waits places
+holds Off false high k waits places e = tt
+holds Off true true k waits places e = some-none e
+holds Off true false k waits places e = leb-false places waits (free (leb places waits) e)
+  where
+    free : (full : Bool) → _≡_ {A = Option Refusal} (cond full (Some QueueFull) None) None → full ≡ false
+    free true e = some-none e
+    free false e = refl
+holds On locked high k waits places e = tt
+holds AfterEscape locked high k waits places e = tt
+
+pub stroke-holds : (t : Terminal) (k : Stroke) (number waits places : ℕ) → None ≡ own-refusal t number waits places → Holds (stroke-action (t .gin) (t .locked) k) waits places
+stroke-holds t k number waits places e = holds (t .gin) (t .locked) (ltb 149 number || (in-gin (t .gin) && ltb 127 number)) k waits places (sym e)
+
+-- the number is one of a key
+pub has-key : (t : Terminal) (number waits places : ℕ) → None ≡ own-refusal t number waits places → number ≤ 149
+has-key t number waits places e = low (ltb 149 number) (in-gin (t .gin) && ltb 127 number) _ (sym e) refl
+  where
+    low : (high more : Bool) (rest : Option Refusal) → cond (high || more) (Some Key) rest ≡ None → ltb 149 number ≡ high → number ≤ 149
+    low true more rest e is = some-none e
+    low false more rest e is = let f : ltb 149 number ≡ false = is in grind (arith, tells)

@@ -1,6 +1,0 @@
-use mathlib.Core.Path.{_≡_}
-use Rattle.terminal.specs.Ink.{row, count}
-use Rattle.terminal.proofs.ink.has_ink.Given as given
-
-abbrev pub Inv-loop-x : given.InvT-loop-x
-Inv-loop-x g l = count (row (g .P·Plane .picture (l .plane)) (l .y)) (l .x) ≡ 0
