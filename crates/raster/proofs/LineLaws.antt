@@ -32,9 +32,9 @@ module _ (a b z : ℤ) (n i o : ℕ) (eo : o ≡ (2 * i * natAbs (a -ℤ b) + n)
   toward-down lt ez = ez ∙ ap (λ t. a -ℤ pos t) eo ∙ sym (cond-false (leZ a b) _ _ (grind (arith, ints)))
 
 module _ (p : Picture) (r : Region) (o : Operation) where
-  -- the loop gave p1, and joining t gave p2
-  pub dot-more : (p1 p2 : Picture) (at : ℕ → Point) (i : ℕ) (t : Point) → t ≡ at i → p1 ≡ dotted r o at i p → p2 ≡ joined r o true t p1 → p2 ≡ dotted r o at (i + 1) p
-  dot-more p1 p2 at i t et e1 e2 = e2 ∙ rw (et, e1) (ap (λ m. dotted r o at m p) (sym (add-one i)))
+  -- the loop gave q₁, and joining t gave q₂
+  pub dot-more : (q₁ q₂ : Picture) (at : ℕ → Point) (i : ℕ) (t : Point) → t ≡ at i → q₁ ≡ dotted r o at i p → q₂ ≡ joined r o true t q₁ → q₂ ≡ dotted r o at (i + 1) p
+  dot-more q₁ q₂ at i t et e1 e2 = e2 ∙ rw (et, e1) (ap (λ m. dotted r o at m p) (sym (add-one i)))
 
 -- the point that the two coordinates make
 pub point-made : (f t : Point) (n dx dy i : ℕ) (x y : ℤ) → n ≡ max dx dy → dx ≡ natAbs (f .x -ℤ t .x) → dy ≡ natAbs (f .y -ℤ t .y) → x ≡ toward (f .x) (t .x) n i → y ≡ toward (f .y) (t .y) n i → record { x = x; y = y } ≡ point f t i
