@@ -1,3 +1,4 @@
 pub mod DrainLaws
 pub mod PacketLaws
 pub mod RingEdits
+pub mod TakeLaws

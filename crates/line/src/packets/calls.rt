@@ -2,6 +2,8 @@
 ghost use mathlib.Core.Path.{_≡_};
 ghost use mathlib.Core.List.{[], _∷_, _++_};
 ghost use Prim.Native.Nat.{_+_, _<_};
+ghost use lib.ListN.{drop};
+ghost use Rattle.queue.specs.Nth.{nth};
 ghost use Rattle.line.specs.PacketWire.{in-use, packet-wire, packet-lawful};
 ghost use Rattle.line.specs.Wire.{idle};
 use super::Packets;
@@ -30,6 +32,28 @@ impl Packets {
         let at = place(8, self.head, self.used);
         self.packets[at] = packet;
         self.used += 1;
+    }
+
+    /// Takes `n` bytes, as far as they wait, and lets them go.
+    fn skip(&mut self, n: usize)
+        ensures { λ _. ⌜ packet-wire (now (self .exit)) .waiting ≡ drop n (packet-wire (now (self .entry)) .waiting) ⌝ }
+    {
+        for _i in 0..n {
+            let _ = self.take();
+        }
+    }
+
+    /// The byte behind `i` others, which stays.
+    pub fn get(&self, i: usize) -> Option<u8>
+        ensures { λ r. ⌜ r ≡ nth (packet-wire (now (self .entry)) .waiting) i ⌝ }
+    {
+        let mut copy = Packets {
+            packets: self.packets,
+            head: self.head,
+            used: self.used,
+        };
+        copy.skip(i);
+        copy.take()
     }
 }
 
