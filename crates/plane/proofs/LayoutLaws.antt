@@ -22,7 +22,7 @@ pub record Sound (l : Layout) : Type 0 where
   pub inside : (x y : ℕ) → x < l .wide → y < l .high → l .cell x y < l .cells
   pub apart : (u v x y : ℕ) → u < l .wide → v < l .high → x < l .wide → y < l .high → l .cell u v ≡ l .cell x y → l .nth u v ≡ l .nth x y → (u ≡ x) × (v ≡ y)
 
-row-and-column : (a b c d s : ℕ) → b < s → d < s → a * s + b ≡ c * s + d → (a ≡ c) × (b ≡ d)
+pub row-and-column : (a b c d s : ℕ) → b < s → d < s → a * s + b ≡ c * s + d → (a ≡ c) × (b ≡ d)
 row-and-column a b c d s hb hd e =
     (sym (div-mul-add a s b hb) ∙ ap (λ n. n / s) e ∙ div-mul-add c s d hd, sym (mod-mul-add a s b hb) ∙ ap (λ n. n % s) e ∙ mod-mul-add c s d hd)
 

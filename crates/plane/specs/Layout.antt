@@ -39,6 +39,14 @@ held l m = record {
   at = λ x y. (ltb x (given l m (l .wide)) && ltb y (given l m (l .high))) && bit (getD m (l .cell x y) 0) (l .nth x y);
 }
 
+-- the picture that a memory with room holds
+abbrev pub shown : Layout → List ℕ → Picture
+shown l m = record {
+  wide = l .wide;
+  high = l .high;
+  at = λ x y. (ltb x (l .wide) && ltb y (l .high)) && bit (getD m (l .cell x y) 0) (l .nth x y);
+}
+
 pub held-dark : (l : Layout) (m : List ℕ) (x y : ℕ) → has (held l m) x y ≡ false → held l m .at x y ≡ false
 held-dark l m x y out = ap (λ t. t && bit (getD m (l .cell x y) 0) (l .nth x y)) out
 

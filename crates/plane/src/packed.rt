@@ -11,6 +11,8 @@ ghost use Rattle.plane.specs.Layout.{rows, held, held-dark, found, made-of-byt
 use crate::Plane;
 use crate::bits::bit_of;
 use crate::bits::with_bit;
+use crate::bytewise::copy_in_row;
+use crate::bytewise::join_in_row;
 use crate::memory::check_bytes;
 use refusal::Refusal;
 
@@ -104,6 +106,37 @@ pub impl Plane for Packed<'_> as PackedPlane {
                 Ok(())
             }
             None => Err(Refusal::Outside),
+        }
+    }
+
+    fn join_run(&mut self, y: usize, x0: usize, x1: usize, zero: bool, one: bool) -> usize {
+        let stride = self.stride as usize;
+        let height = self.height as usize;
+        let end = x1.min(8 * stride);
+        if self.has_room() && y < height && x0 < end {
+            join_in_row(self.memory, stride, height, y, x0, end, zero, one)
+        } else {
+            0
+        }
+    }
+
+    // Whole bytes where both runs lie alike in them, and the source all inside.
+    fn copy_run(&mut self, y: usize, x0: usize, x1: usize, sy: usize, sx: usize) -> usize {
+        let stride = self.stride as usize;
+        let height = self.height as usize;
+        let end = x1.min(8 * stride);
+        if self.has_room()
+            && y < height
+            && sy < height
+            && sy != y
+            && x0 < end
+            && x0 % 8 == sx % 8
+            && sx < 8 * stride
+            && sx + (end - x0) <= 8 * stride
+        {
+            copy_in_row(self.memory, stride, height, y, x0, end, sy, sx)
+        } else {
+            self.copy_places(y, x0, x1, sy, sx)
         }
     }
 }
