@@ -41,8 +41,8 @@ other-row p g y x0 x1 u v ne = grind (arith, tells)
 -- q is p copied as far as x
 module _ (p q : Picture) (y x0 x sy sx : ℕ) (ne : sy ≡ y → ⊥) (le : x0 ≤ x) (so-far : q ≡ mapped y x0 x (from-row p x0 sy sx) p) where
   -- the rest may be copied from q as it would be from p
-  pub rest : (x1 t : ℕ) → t ≡ x - x0 + sx → mapped y x x1 (from-row q x sy t) q ≡ mapped y x x1 (from-row p x0 sy sx) q
-  rest x1 t et = same-along q (from-row q x sy t) (from-row p x0 sy sx) y x x1 same
+  pub rest : (x1 t : ℕ) (r : Picture) → r ≡ mapped y x x1 (from-row q x sy t) q → t ≡ x - x0 + sx → r ≡ mapped y x x1 (from-row p x0 sy sx) q
+  rest x1 t r is et = is ∙ same-along q (from-row q x sy t) (from-row p x0 sy sx) y x x1 same
     where
       same : (u : ℕ) → x ≤ u → u < x1 → (old : Bool) → from-row q x sy t u old ≡ from-row p x0 sy sx u old
       same u ge lt old =
@@ -51,7 +51,7 @@ module _ (p q : Picture) (y x0 x sy sx : ℕ) (ne : sy ≡ y → ⊥) (le : x0 �
 
   -- the answer comes first, so that what is to be shown is where it was asked
   pub one-copied : {s : ℕ} (b : Bool) → Ok b ≡ asked q s sy → s ≡ x - x0 + sx → filled-run y x (x + 1) b q ≡ mapped y x (x + 1) (from-row p x0 sy sx) q
-  one-copied {s} b e es = same-along q (λ _ _. b) (from-row q x sy s) y x (x + 1) same ∙ rest (x + 1) s es
+  one-copied {s} b e es = rest (x + 1) s (filled-run y x (x + 1) b q) (same-along q (λ _ _. b) (from-row q x sy s) y x (x + 1) same) es
     where
       same : (u : ℕ) → x ≤ u → u < x + 1 → (old : Bool) → b ≡ from-row q x sy s u old
       same u ge lt old =
@@ -61,7 +61,7 @@ module _ (p q : Picture) (y x0 x sy sx : ℕ) (ne : sy ≡ y → ⊥) (le : x0 �
 
   pub none-copied : {s : ℕ} (f : Refusal) → Err f ≡ asked q s sy → s ≡ x - x0 + sx → Done y x (x + 1) (from-row p x0 sy sx) q q 0
   none-copied {s} f e es = record {
-    picture = agree q (q .at) (mapped y x (x + 1) (λ _ old. old) q .at) (λ u v. stays (has q u v && on-run y x (x + 1) u v) (q .at u v)) ∙ same-along q (λ _ old. old) (from-row q x sy s) y x (x + 1) same ∙ rest (x + 1) s es;
+    picture = rest (x + 1) s q (agree q (q .at) (mapped y x (x + 1) (λ _ old. old) q .at) (λ u v. stays (has q u v && on-run y x (x + 1) u v) (q .at u v)) ∙ same-along q (λ _ old. old) (from-row q x sy s) y x (x + 1) same) es;
     count = sym (no-change y q);
   }
     where

@@ -30,17 +30,17 @@ module _ (y x0 : ℕ) (g : ℕ → Bool → Bool) (p : Picture) where
   in-one-part x x1 u le le′ =
       elim (cases-lt u x) [ inl lt ↦ inr (grind (arith, tells)) | inr ge ↦ inl (grind (arith, tells)) ]
 
-  -- first as far as x, then from there
-  pub longer : (x x1 : ℕ) (q r : Picture) (m n : ℕ) → x0 ≤ x → x ≤ x1 → Done y x0 x g p q m → Done y x x1 g q r n → Done y x0 x1 g p r (m + n)
-  longer x x1 q r m n le le′ d e =
-      let is : r ≡ mapped y x x1 g (mapped y x0 x g p) = e .picture ∙ ap (mapped y x x1 g) (d .picture) in
+  -- first as far as x, then from there; where the second part ends is left to be shown
+  pub longer : (x : ℕ) {e : ℕ} (x1 : ℕ) (q r : Picture) (m n : ℕ) → x0 ≤ x → x ≤ x1 → Done y x0 x g p q m → Done y x e g q r n → e ≡ x1 → Done y x0 x1 g p r (m + n)
+  longer x x1 q r m n le le′ d more end =
+      let is : r ≡ mapped y x x1 g (mapped y x0 x g p) = more .picture ∙ ap (λ t. mapped y x t g q) end ∙ ap (mapped y x x1 g) (d .picture) in
       record {
         picture = is ∙ in-parts x x1 le le′;
-        count = rw (d .count, e .count, is, d .picture) (sym (changes-sum y p (mapped y x0 x g p) (mapped y x x1 g (mapped y x0 x g p)) refl (λ u. in-one-part x x1 u le le′)));
+        count = rw (d .count, more .count, is, d .picture) (sym (changes-sum y p (mapped y x0 x g p) (mapped y x x1 g (mapped y x0 x g p)) refl (λ u. in-one-part x x1 u le le′)));
       }
 
   pub one-longer : (x : ℕ) (q r : Picture) (m n : ℕ) → x0 ≤ x → Done y x0 x g p q m → Done y x (x + 1) g q r n → Done y x0 (x + 1) g p r (m + n)
-  one-longer x q r m n le d e = longer x (x + 1) q r m n le (omega arith) d e
+  one-longer x q r m n le d more = longer x (x + 1) q r m n le (omega arith) d more refl
 
   -- no place of the run is in the picture
   pub empty : (x1 : ℕ) → (x1 ≤ x0) ⊎ ((p .high ≤ y) ⊎ (p .wide ≤ x0)) → Done y x0 x1 g p p 0

@@ -1,34 +1,21 @@
--- Clearing, one place and one row more.
+-- Clearing, one row more.
 use mathlib.Core.Path.{_≡_, refl}
-use mathlib.Core.Bool.{Bool, true, false, cond, _&&_}
-use Prim.Native.Nat.{ℕ, _+_, _≤_, max}
+use mathlib.Core.Bool.{Bool, _&&_}
+use Prim.Native.Nat.{ℕ, _+_, _≤_}
 use native.Mathlib.Omega.{arith}
-use lib.Dec.{eqb, leb, ltb}
+use lib.Dec.{leb, ltb}
 use Rattle.std.proofs.shelf.Ways.{tells}
-use Rattle.plane.specs.Picture.{Picture, has, put}
+use Rattle.plane.specs.Picture.{Picture}
 use Rattle.raster.specs.declared.region.Region.{Region}
 use Rattle.raster.specs.Region.{among}
 use Rattle.raster.specs.Clear.{without, row-of, cleared}
 use Rattle.raster.proofs.Pictures.{agree}
-
--- the places of row y from a on and before x
-abbrev pub part : ℕ → ℕ → ℕ → ℕ → ℕ → Bool
-part a x y u v = (leb a u && ltb u x) && eqb v y
 
 -- the rows of the region before y
 abbrev pub lower : Region → ℕ → ℕ → ℕ → Bool
 lower r y u v = among (r .left) (r .width) u && (leb (r .bottom) v && ltb v y)
 
 module _ (p : Picture) (r : Region) where
-  pub no-place : (y : ℕ) → p ≡ without (part (r .left) (r .left) y) p
-  no-place y = agree p _ _ (λ u v. grind (arith, tells))
-
-  pub place-more : (x y : ℕ) → r .left ≤ x → put x y false (without (part (r .left) x y) p) ≡ without (part (r .left) (x + 1) y) p
-  place-more x y le = agree p _ _ (λ u v. grind (arith, tells))
-
-  pub row-all : (x y : ℕ) → x ≡ r .left + r .width → without (part (r .left) x y) p ≡ without (row-of r y) p
-  row-all x y e = rw e refl
-
   pub no-row : p ≡ without (lower r (r .bottom)) p
   no-row = agree p _ _ (λ u v. grind (arith, tells))
 

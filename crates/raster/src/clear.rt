@@ -11,9 +11,7 @@ fn clear_row<P: Plane>(plane: &mut P, region: Region, v: usize)
     ensures { λ _. ⌜ picture (now (plane .exit)) ≡ without (row-of region v) (picture (now (plane .entry))) ⌝ }
 {
     let left = region.left as usize;
-    for u in left..left + region.width as usize {
-        let _ = plane.set(u, v, false);
-    }
+    plane.fill_run(v, left, left + region.width as usize, false);
 }
 
 /// Clears the region, where it lies in the plane.

@@ -35,9 +35,8 @@ loop-k-again c =
     let f = from-row q start (a .sy) from in
     let k = c .loop-k .k in
     let byte = c .copy-in-byte-count-in-loop-k .ensures in
-    let next : 8 * k + 8 ≡ 8 * (k + 1) = omega arith in
-    let e = longer (a .y) start f q (8 * k) (8 * k + 8) m r (changes (a .y) q m) (c .copy-in-byte-count-in-loop-k .result) (omega arith) (omega arith) (record { picture = c .loop-k .inv .0; count = refl }) (record { picture = byte .picture ∙ rest q m (a .y) start (8 * k) (a .sy) from (c .pre .apart) (omega arith) (c .loop-k .inv .0) (8 * k + 8) (8 * k - a .x0 + a .sx) (omega arith); count = byte .count }) in
-    (e .picture ∙ ap (λ t. mapped (a .y) start t f q) next, omega (arith, c .loop-k .inv .1, e .count))
+    let e = longer (a .y) start f q (8 * k) (8 * (k + 1)) m r (changes (a .y) q m) (c .copy-in-byte-count-in-loop-k .result) (omega arith) (omega arith) (record { picture = c .loop-k .inv .0; count = refl }) (record { picture = rest q m (a .y) start (8 * k) (a .sy) from (c .pre .apart) (omega arith) (c .loop-k .inv .0) (8 * k + 8) (8 * k - a .x0 + a .sx) r (byte .picture) (omega arith); count = byte .count }) (omega arith) in
+    (e .picture, omega (arith, c .loop-k .inv .1, e .count))
 
 pub add-count-then-last-x1 : need.add-count-then-last-x1
 add-count-then-last-x1 c =
@@ -61,8 +60,8 @@ returns-then-last-x1 c =
     let o = c .copy-in-byte-count .ensures in
     let t = c .copy-in-byte-count-then-last-x1 .ensures in
     let last : 8 * (a .x1 / 8) ≡ 8 * k = omega arith in
-    let e = longer (a .y) (a .x0) f p start (8 * k) q m (c .copy-in-byte-count .result) (changes (a .y) q m) (omega arith) (omega arith) (record { picture = o .picture; count = o .count }) (record { picture = c .loop-k .inv .0 ∙ rest p q (a .y) (a .x0) start (a .sy) (a .sx) (c .pre .apart) (omega arith) (o .picture) (8 * k) (start - a .x0 + a .sx) refl; count = refl }) in
-    let d = longer (a .y) (a .x0) f p (8 * k) (a .x1) m r (c .loop-k .count) (c .copy-in-byte-count-then-last-x1 .result) (omega arith) (omega arith) (record { picture = e .picture; count = c .loop-k .inv .1 ∙ e .count }) (record { picture = t .picture ∙ ap (λ x. mapped (a .y) x (a .x1) (from-row m x (a .sy) (x - a .x0 + a .sx)) m) last ∙ rest p m (a .y) (a .x0) (8 * k) (a .sy) (a .sx) (c .pre .apart) (omega arith) (e .picture) (a .x1) (8 * k - a .x0 + a .sx) refl; count = t .count }) in
+    let e = longer (a .y) (a .x0) f p start (8 * k) q m (c .copy-in-byte-count .result) (changes (a .y) q m) (omega arith) (omega arith) (record { picture = o .picture; count = o .count }) (record { picture = rest p q (a .y) (a .x0) start (a .sy) (a .sx) (c .pre .apart) (omega arith) (o .picture) (8 * k) (start - a .x0 + a .sx) m (c .loop-k .inv .0) refl; count = refl }) refl in
+    let d = longer (a .y) (a .x0) f p (8 * k) (a .x1) m r (c .loop-k .count) (c .copy-in-byte-count-then-last-x1 .result) (omega arith) (omega arith) (record { picture = e .picture; count = c .loop-k .inv .1 ∙ e .count }) (record { picture = rest p m (a .y) (a .x0) (8 * k) (a .sy) (a .sx) (c .pre .apart) (omega arith) (e .picture) (a .x1) (8 * k - a .x0 + a .sx) r (t .picture ∙ ap (λ x. mapped (a .y) x (a .x1) (from-row m x (a .sy) (x - a .x0 + a .sx)) m) last) refl; count = t .count }) refl in
     record { picture = d .picture; count = d .count }
 
 pub returns-else-last-x1 : need.returns-else-last-x1
@@ -77,5 +76,5 @@ returns-else-last-x1 c =
     let k = c .loop-k .k in
     let o = c .copy-in-byte-count .ensures in
     let last : 8 * k ≡ a .x1 = omega arith in
-    let e = longer (a .y) (a .x0) f p start (8 * k) q m (c .copy-in-byte-count .result) (changes (a .y) q m) (omega arith) (omega arith) (record { picture = o .picture; count = o .count }) (record { picture = c .loop-k .inv .0 ∙ rest p q (a .y) (a .x0) start (a .sy) (a .sx) (c .pre .apart) (omega arith) (o .picture) (8 * k) (start - a .x0 + a .sx) refl; count = refl }) in
+    let e = longer (a .y) (a .x0) f p start (8 * k) q m (c .copy-in-byte-count .result) (changes (a .y) q m) (omega arith) (omega arith) (record { picture = o .picture; count = o .count }) (record { picture = rest p q (a .y) (a .x0) start (a .sy) (a .sx) (c .pre .apart) (omega arith) (o .picture) (8 * k) (start - a .x0 + a .sx) m (c .loop-k .inv .0) refl; count = refl }) refl in
     record { picture = e .picture ∙ ap (λ x. mapped (a .y) (a .x0) x f p) last; count = c .loop-k .inv .1 ∙ e .count }

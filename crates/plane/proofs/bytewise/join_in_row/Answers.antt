@@ -33,9 +33,8 @@ loop-k-again c =
     let first = a .x0 / 8 + 1 in
     let k = c .loop-k .k in
     let byte = c .join-in-byte-count-in-loop-k .ensures in
-    let next : 8 * k + 8 ≡ 8 * (k + 1) = omega arith in
-    let e = longer (a .y) (8 * first) f q (8 * k) (8 * k + 8) m r (changes (a .y) q m) (c .join-in-byte-count-in-loop-k .result) (omega arith) (omega arith) (record { picture = c .loop-k .inv .0; count = refl }) (record { picture = byte .picture; count = byte .count }) in
-    (e .picture ∙ ap (λ t. mapped (a .y) (8 * first) t f q) next, omega (arith, c .loop-k .inv .1, e .count))
+    let e = longer (a .y) (8 * first) f q (8 * k) (8 * (k + 1)) m r (changes (a .y) q m) (c .join-in-byte-count-in-loop-k .result) (omega arith) (omega arith) (record { picture = c .loop-k .inv .0; count = refl }) (record { picture = byte .picture; count = byte .count }) (omega arith) in
+    (e .picture, omega (arith, c .loop-k .inv .1, e .count))
 
 pub add-count-then-last-x1 : need.add-count-then-last-x1
 add-count-then-last-x1 c =
@@ -58,8 +57,8 @@ returns-then-last-x1 c =
     let o = c .join-in-byte-count .ensures in
     let t = c .join-in-byte-count-then-last-x1 .ensures in
     let last : 8 * (a .x1 / 8) ≡ 8 * k = omega arith in
-    let e = longer (a .y) (a .x0) f p (8 * (a .x0 / 8 + 1)) (8 * k) q m (c .join-in-byte-count .result) (changes (a .y) q m) (omega arith) (omega arith) (record { picture = o .picture; count = o .count }) (record { picture = c .loop-k .inv .0; count = refl }) in
-    let d = longer (a .y) (a .x0) f p (8 * k) (a .x1) m r (c .loop-k .count) (c .join-in-byte-count-then-last-x1 .result) (omega arith) (omega arith) (record { picture = e .picture; count = c .loop-k .inv .1 ∙ e .count }) (record { picture = t .picture ∙ ap (λ x. mapped (a .y) x (a .x1) f m) last; count = t .count }) in
+    let e = longer (a .y) (a .x0) f p (8 * (a .x0 / 8 + 1)) (8 * k) q m (c .join-in-byte-count .result) (changes (a .y) q m) (omega arith) (omega arith) (record { picture = o .picture; count = o .count }) (record { picture = c .loop-k .inv .0; count = refl }) refl in
+    let d = longer (a .y) (a .x0) f p (8 * k) (a .x1) m r (c .loop-k .count) (c .join-in-byte-count-then-last-x1 .result) (omega arith) (omega arith) (record { picture = e .picture; count = c .loop-k .inv .1 ∙ e .count }) (record { picture = t .picture ∙ ap (λ x. mapped (a .y) x (a .x1) f m) last; count = t .count }) refl in
     record { picture = d .picture; count = d .count }
 
 pub returns-else-last-x1 : need.returns-else-last-x1
@@ -73,5 +72,5 @@ returns-else-last-x1 c =
     let k = c .loop-k .k in
     let o = c .join-in-byte-count .ensures in
     let last : 8 * k ≡ a .x1 = omega arith in
-    let e = longer (a .y) (a .x0) f p (8 * (a .x0 / 8 + 1)) (8 * k) q m (c .join-in-byte-count .result) (changes (a .y) q m) (omega arith) (omega arith) (record { picture = o .picture; count = o .count }) (record { picture = c .loop-k .inv .0; count = refl }) in
+    let e = longer (a .y) (a .x0) f p (8 * (a .x0 / 8 + 1)) (8 * k) q m (c .join-in-byte-count .result) (changes (a .y) q m) (omega arith) (omega arith) (record { picture = o .picture; count = o .count }) (record { picture = c .loop-k .inv .0; count = refl }) refl in
     record { picture = e .picture ∙ ap (λ x. mapped (a .y) (a .x0) x f p) last; count = c .loop-k .inv .1 ∙ e .count }
