@@ -1,7 +1,7 @@
 -- The three laws over whole runs of calls.
 use mathlib.Core.Path.{_≡_, refl, sym, _∙_, ap, ap₂, fun-ext}
 use mathlib.Core.Bool.{Bool, false}
-use mathlib.Core.List.{List, [], _∷_, _++_, cons-ne-nil}
+use mathlib.Core.List.{List, [], _∷_, _++_, map, cons-ne-nil}
 use mathlib.Core.Logic.{⊎-elim}
 use Prim.Native.Nat.{ℕ, zero, suc, _+_}
 use native.Mathlib.Omega.{arith}
@@ -20,7 +20,7 @@ use Rattle.state.specs.Terminal.{made}
 use Rattle.runs.specs.declared.delivery.Delivery.{Delivery}
 use Rattle.runs.specs.declared.delivery.Delivery.the-variants.{Whole, Stopped}
 use Rattle.runs.specs.Calls.{Works, none, more, Fed}
-use Rattle.runs.specs.Laws.{from-new, ByRules, SameStart, Agree, TakesFirst, recall, LikeNew, Recall, counted, DifferOnly, AddEqual, Spared}
+use Rattle.runs.specs.Laws.{from-new, ByRules, SameStart, Agree, TakesFirst, recall, LikeNew, Recall, counted, DifferOnly, AddEqual, Spared, Cut}
 use Rattle.runs.specs.Run.{Run, Installed}
 use Rattle.runs.specs.Set.{Set, view}
 use Rattle.runs.proofs.Confine.{unchanged, stay-alike, unseen-terminal, unseen-strokes, unseen-replies}
@@ -153,3 +153,7 @@ spared setup s₀ s s′ es₀ es ds₀ ds i r₀ r = (
   λ x y c. ap (λ (v : Seen). v .picture .at x y) (tracks r .sees) ∙ unchanged (view s) es x y c,
   λ other t₀ t t′ fs₀ gs₀ gs j q₀ q d. compared s s′ t t′ es ds gs r q d,
 )
+
+-- deliveries of the same bytes are the same events
+pub cut : Cut
+cut setup s s′ t t′ bytes ds gs i j same r q = agree setup s s′ t t′ (map byte bytes) ds gs i j same r q .0

@@ -1,7 +1,7 @@
 -- The three laws over whole runs of calls, any of them refused, on any lawful planes and lines.
 use mathlib.Core.Path.{_≡_}
 use mathlib.Core.Bool.{Bool, true, false, _||_}
-use mathlib.Core.List.{List, [], _∷_, _++_}
+use mathlib.Core.List.{List, [], _∷_, _++_, map}
 use Prim.Native.Nat.{ℕ, _<_}
 use Rattle.std.specs.declared.result.Result.{Result}
 use Rattle.std.specs.declared.result.Result.the-variants.{Ok, Err}
@@ -48,6 +48,14 @@ Agree =
     Installed setup s → Installed setup t → SameStart s t →
     Run s es ds s′ → Run t es gs t′ →
     Equal s′ ds t′ gs × ByRules setup (s .picture) es s′ ds
+
+-- In particular, how the bytes of a host are cut into deliveries makes no difference.
+abbrev pub Cut : Type 0
+Cut =
+    (setup : Setup) (s s′ t t′ : Set) (bytes : List ℕ) (ds gs : List ℕ) →
+    Installed setup s → Installed setup t → SameStart s t →
+    Run s (map byte bytes) ds s′ → Run t (map byte bytes) gs t′ →
+    Equal s′ ds t′ gs
 
 -- a delivery that is not refused took its first byte, and no refusal of it has the number 8
 abbrev pub TakesFirst : Result Delivery Refusal → Type 0

@@ -1,6 +1,6 @@
 //! Installing a terminal.
 ghost use mathlib.Core.Path.{_≡_};
-ghost use Rattle.runs.specs.Laws.{Agree, Recall, Spared};
+ghost use Rattle.runs.specs.Laws.{Agree, Cut, Recall, Spared};
 ghost use Rattle.terminal.specs.Install.{installed};
 use plane::memory::check_size;
 use refusal::Refusal;
@@ -10,10 +10,11 @@ use state::setup::Terminator;
 use state::terminal::Terminal;
 
 /// A new terminal for planes of this size. Terminators are 0 (nothing), 1 (CR) and 2 (CR EOT).
-/// Whatever calls follow, the three laws hold of them.
+/// Whatever calls follow, the laws hold of them.
 pub fn install(width: usize, height: usize, terminator: u8) -> Result<Terminal, Refusal>
     ensures value { λ r. ⌜ r ≡ installed width height terminator ⌝ }
     ensures agree { λ _. ⌜ Agree ⌝ }
+    ensures cut { λ _. ⌜ Cut ⌝ }
     ensures recall { λ _. ⌜ Recall ⌝ }
     ensures spared { λ _. ⌜ Spared ⌝ }
 {
