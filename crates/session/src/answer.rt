@@ -113,7 +113,7 @@ fn reach<P: Plane, L: Line>(
 }
 
 /// Makes a call and prints what it answered.
-pub fn make_call<P: Plane, L: Line>(
+pub(crate) fn make_call<P: Plane, L: Line>(
     rt: &LibcRuntime,
     terminal: &mut Terminal,
     face: &[u8],

@@ -189,7 +189,7 @@ fn command_of(heap: Global, name: Name, words: &mut Words<'_>) -> Result<Command
 
 impl Command {
     /// The command of a line, or none where the line is empty or a comment.
-    pub fn read(heap: Global, line: &[u8]) -> Result<Option<Command>, Fault> {
+    pub(crate) fn read(heap: Global, line: &[u8]) -> Result<Option<Command>, Fault> {
         if line.starts_with(b"#") {
             return Ok(None);
         }

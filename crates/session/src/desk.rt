@@ -24,7 +24,7 @@ pub struct Desk {
 
 impl Desk {
     /// Makes a call on the plane, of whatever make it is.
-    pub fn call<L: Line>(
+    pub(crate) fn call<L: Line>(
         &mut self,
         rt: &LibcRuntime,
         line: &mut L,

@@ -8,7 +8,7 @@ use std::alloc::Global;
 const FACE_BYTES: usize = 1520;
 
 /// The face of a new terminal: all 255.
-pub fn solid(heap: Global) -> Result<Vec<u8>, AllocError> {
+pub(crate) fn solid(heap: Global) -> Result<Vec<u8>, AllocError> {
     vec![in heap; 255u8; FACE_BYTES]
 }
 
@@ -22,7 +22,7 @@ fn ramp(heap: Global) -> Result<Vec<u8>, AllocError> {
 }
 
 /// The face that a word names, or whose bytes it has.
-pub fn face_of(heap: Global, word: &[u8]) -> Result<Vec<u8>, Fault> {
+pub(crate) fn face_of(heap: Global, word: &[u8]) -> Result<Vec<u8>, Fault> {
     match word {
         b"solid" => Ok(solid(heap)?),
         b"ramp" => Ok(ramp(heap)?),

@@ -18,7 +18,7 @@ fn pair(high: u8, low: u8) -> Option<u8> {
 }
 
 /// The bytes of a word; no byte is written `-`, since a word has a length.
-pub fn bytes_of(heap: Global, word: &[u8]) -> Result<Vec<u8>, Fault> {
+pub(crate) fn bytes_of(heap: Global, word: &[u8]) -> Result<Vec<u8>, Fault> {
     let mut bytes = Vec::new(heap);
     if word == b"-" {
         return Ok(bytes);
@@ -50,7 +50,7 @@ fn letter(digit: u8) -> char {
 }
 
 /// The digits of bytes, nothing where there are none.
-pub fn digits_of(heap: Global, bytes: &[u8]) -> Result<String, AllocError> {
+pub(crate) fn digits_of(heap: Global, bytes: &[u8]) -> Result<String, AllocError> {
     let mut digits = String::new(heap);
     for byte in bytes {
         digits.push(letter(*byte / 16))?;
@@ -60,7 +60,7 @@ pub fn digits_of(heap: Global, bytes: &[u8]) -> Result<String, AllocError> {
 }
 
 /// The bytes as a word, `-` where there are none.
-pub fn word_of(heap: Global, bytes: &[u8]) -> Result<String, AllocError> {
+pub(crate) fn word_of(heap: Global, bytes: &[u8]) -> Result<String, AllocError> {
     if bytes.is_empty() {
         return String::from_str(heap, "-");
     }

@@ -40,8 +40,8 @@ fn clear_row<P: Plane>(plane: &mut P, y: usize) {
     }
 }
 
-/// Gives every pixel: the low bytes of the numbers of the seed, or 0 for seed 0.
-pub fn put_ink<P: Plane>(plane: &mut P, seed: u64) {
+/// Gives every pixel: the low bytes of the numbers of the seed, or 0 where the seed is 0.
+pub(crate) fn put_ink<P: Plane>(plane: &mut P, seed: u64) {
     let mut numbers = Numbers { state: seed };
     for y in (0..plane.height()).rev() {
         if seed == 0 {
@@ -65,7 +65,7 @@ fn push_row<P: Plane>(plane: &P, y: usize, bytes: &mut Vec<u8>) -> Result<(), Al
 }
 
 /// Every pixel.
-pub fn pixels_of<P: Plane>(heap: Global, plane: &P) -> Result<Vec<u8>, AllocError> {
+pub(crate) fn pixels_of<P: Plane>(heap: Global, plane: &P) -> Result<Vec<u8>, AllocError> {
     let mut bytes = Vec::new(heap);
     for y in (0..plane.height()).rev() {
         push_row(plane, y, &mut bytes)?;

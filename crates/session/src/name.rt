@@ -47,7 +47,7 @@ impl Name {
     }
 
     /// The name that a word is, if it is one.
-    pub fn of(word: &[u8]) -> Option<Name> {
+    pub(crate) fn of(word: &[u8]) -> Option<Name> {
         for name in NAMES {
             if name.text() == word {
                 return Some(name);

@@ -20,7 +20,7 @@ fn line_end(text: &[u8], at: usize) -> usize {
 }
 
 impl<'a> Script<'a> {
-    pub fn new(text: &'a [u8]) -> Script<'a> {
+    pub(crate) fn new(text: &'a [u8]) -> Script<'a> {
         Script {
             text,
             at: 0,
@@ -29,7 +29,7 @@ impl<'a> Script<'a> {
     }
 
     /// The number of the line that was read last, from 1 on.
-    pub fn line(&self) -> u64 {
+    pub(crate) fn line(&self) -> u64 {
         self.line
     }
 
@@ -45,7 +45,7 @@ impl<'a> Script<'a> {
     }
 
     /// The next command, or none at the end.
-    pub fn next_command(&mut self, heap: Global) -> Result<Option<Command>, Fault> {
+    pub(crate) fn next_command(&mut self, heap: Global) -> Result<Option<Command>, Fault> {
         for _ in 0..u64::MAX {
             let Some(line) = self.next_line() else {
                 break;

@@ -139,7 +139,7 @@ fn next_plan(rt: &LibcRuntime, script: &mut Script<'_>) -> Result<Option<Plan>, 
 }
 
 /// Plays the whole script.
-pub fn play(rt: &LibcRuntime, script: &mut Script<'_>) -> Result<(), Fault> {
+pub(crate) fn play(rt: &LibcRuntime, script: &mut Script<'_>) -> Result<(), Fault> {
     let mut next = next_plan(rt, script)?;
     for _ in 0..u64::MAX {
         let Some(plan) = next else {

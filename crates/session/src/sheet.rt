@@ -24,7 +24,7 @@ pub struct Sheet {
 
 impl Sheet {
     /// Memory of zeros, none where the size is no plane's.
-    pub fn blank(
+    pub(crate) fn blank(
         heap: Global,
         kind: PlaneKind,
         width: usize,

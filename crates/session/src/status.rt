@@ -105,7 +105,7 @@ fn print_strokes(rt: &LibcRuntime, strokes: &Queue<'_, Stroke>) -> Result<(), Fa
 }
 
 /// Prints the state.
-pub fn print_state<L: Peek>(
+pub(crate) fn print_state<L: Peek>(
     rt: &LibcRuntime,
     terminal: &Terminal,
     line: &L,

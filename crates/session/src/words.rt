@@ -31,12 +31,12 @@ fn decimal(word: &[u8]) -> Option<usize> {
 }
 
 impl<'a> Words<'a> {
-    pub fn new(line: &'a [u8]) -> Words<'a> {
+    pub(crate) fn new(line: &'a [u8]) -> Words<'a> {
         Words { line, at: 0 }
     }
 
     /// The next word, if there is one.
-    pub fn next(&mut self) -> Option<&'a [u8]> {
+    pub(crate) fn next(&mut self) -> Option<&'a [u8]> {
         let start = past(self.line, self.at, true);
         let end = past(self.line, start, false);
         self.at = end;
@@ -47,21 +47,21 @@ impl<'a> Words<'a> {
         }
     }
 
-    pub fn word(&mut self) -> Result<&'a [u8], Fault> {
+    pub(crate) fn word(&mut self) -> Result<&'a [u8], Fault> {
         self.next().ok_or(Fault::MissingWord)
     }
 
-    pub fn number(&mut self) -> Result<usize, Fault> {
+    pub(crate) fn number(&mut self) -> Result<usize, Fault> {
         decimal(self.word()?).ok_or(Fault::BadNumber)
     }
 
     /// A number, or 255 for one that is above.
-    pub fn byte(&mut self) -> Result<u8, Fault> {
+    pub(crate) fn byte(&mut self) -> Result<u8, Fault> {
         Ok(self.number()?.min(255) as u8)
     }
 
     /// The number that may stand last.
-    pub fn number_or(&mut self, usual: usize) -> Result<usize, Fault> {
+    pub(crate) fn number_or(&mut self, usual: usize) -> Result<usize, Fault> {
         match self.next() {
             Some(word) => decimal(word).ok_or(Fault::BadNumber),
             None => Ok(usual),
@@ -69,7 +69,7 @@ impl<'a> Words<'a> {
     }
 
     /// That no word is left.
-    pub fn end(&mut self) -> Result<(), Fault> {
+    pub(crate) fn end(&mut self) -> Result<(), Fault> {
         match self.next() {
             Some(_) => Err(Fault::ExtraWord),
             None => Ok(()),
