@@ -9,7 +9,8 @@ use native.Mathlib.Omega.{arith}
 use lib.Dec.{eqb, ltb}
 use Rattle.std.proofs.shelf.Tests.{cases-bool, cases-eq, cases-lt, eq-eqb, ne-eqb, cond-true, cond-false, lt-ltb, le-ltb}
 use Rattle.printout.specs.declared.ink.Ink.{Ink}
-use Rattle.printout.specs.Ink.{count, first, last, inked, one-more, Bounds, Bounded}
+use Rattle.plane.specs.Run.{how-many as count}
+use Rattle.printout.specs.Ink.{first, last, inked, one-more, Bounds, Bounded}
 
 module _ (f : ℕ → Bool) where
   pub count-set : (n : ℕ) → f n ≡ true → count f (n + 1) ≡ count f n + 1

@@ -15,7 +15,8 @@ use Rattle.refusal.specs.Number.{refused}
 use Rattle.columns.specs.Line.{text-of}
 use Rattle.plane.specs.Picture.{Picture}
 use Rattle.printout.specs.declared.ink.Ink.{Ink}
-use Rattle.printout.specs.Ink.{row, count, inked, inked-rows}
+use Rattle.printout.specs.Ink.{row, inked, inked-rows}
+use Rattle.plane.specs.Run.{how-many as count}
 use Rattle.state.specs.declared.terminal.Terminal.{Terminal}
 use Rattle.state.specs.Size.{same-size}
 use Rattle.printout.specs.Listing.{row-line, row-text, rows, last-line, text, answer, written}

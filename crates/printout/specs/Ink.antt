@@ -4,6 +4,7 @@ use mathlib.Core.Bool.{Bool, true, false, cond}
 use Prim.Native.Nat.{ℕ, zero, suc, _+_, _<_, _≤_}
 use lib.Dec.{eqb, ltb}
 use Rattle.plane.specs.Picture.{Picture}
+use Rattle.plane.specs.Run.{how-many as count}
 use Rattle.state.specs.declared.setup.Size.{Size}
 use Rattle.printout.specs.declared.ink.Ink.{Ink}
 
@@ -11,12 +12,7 @@ use Rattle.printout.specs.declared.ink.Ink.{Ink}
 abbrev pub row : Picture → ℕ → ℕ → Bool
 row p y x = p .at x y
 
--- how many of the first n places are set
-abbrev pub count : (ℕ → Bool) → ℕ → ℕ
-count f zero = 0
-count f (suc n) = count f n + cond (f n) 1 0
-
--- the first of them, and the last
+-- the first of the n places that is set, and the last
 abbrev pub first : (ℕ → Bool) → ℕ → ℕ
 first f zero = 0
 first f (suc n) = cond (f n) (cond (eqb (count f n) 0) n (first f n)) (first f n)

@@ -18,7 +18,8 @@ use Rattle.refusal.specs.Number.{refused}
 use Rattle.state.specs.declared.terminal.Terminal.{Terminal}
 use Rattle.state.specs.Size.{same-size}
 use Rattle.printout.specs.declared.ink.Ink.{Ink}
-use Rattle.printout.specs.Ink.{row, count, inked}
+use Rattle.printout.specs.Ink.{row, inked}
+use Rattle.plane.specs.Run.{how-many as count}
 
 -- y, first x, last x, count
 abbrev pub row-line : ℕ → Ink → Line

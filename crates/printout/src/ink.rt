@@ -2,7 +2,8 @@
 ghost use mathlib.Core.Path.{_≡_};
 ghost use Prim.Native.Nat.{_<_};
 ghost use lib.Dec.{ltb};
-ghost use Rattle.printout.specs.Ink.{row, count as tally, one-more, inked, inked-rows as rows-with-ink};
+ghost use Rattle.plane.specs.Run.{how-many};
+ghost use Rattle.printout.specs.Ink.{row, one-more, inked, inked-rows as rows-with-ink};
 use plane::Plane;
 use state::setup::Size;
 
@@ -58,7 +59,7 @@ pub(crate) fn ink_of_row<P: Plane>(plane: &P, width: u16, y: u16) -> Ink
 
 // Whether the row has ink; it is looked at no further than its first.
 fn has_ink<P: Plane>(plane: &P, width: u16, y: u16) -> bool
-    ensures { λ r. ⌜ r ≡ ltb 0 (tally (row (picture (now (plane .entry))) y) width) ⌝ }
+    ensures { λ r. ⌜ r ≡ ltb 0 (how-many (row (picture (now (plane .entry))) y) width) ⌝ }
 {
     for x in 0..width {
         if is_set(plane, x, y) {

@@ -9,7 +9,7 @@ use Rattle.plane.specs.Picture.{Picture}
 use Rattle.raster.specs.declared.region.Region.{Region}
 use Rattle.raster.specs.Region.{among}
 use Rattle.raster.specs.Clear.{without, row-of, cleared}
-use Rattle.raster.proofs.Pictures.{agree}
+use Rattle.plane.proofs.RunLaws.{agree}
 
 -- the rows of the region before y
 abbrev pub lower : Region → ℕ → ℕ → ℕ → Bool

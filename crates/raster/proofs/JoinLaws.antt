@@ -13,7 +13,7 @@ use Rattle.raster.specs.declared.region.Point.{Point}
 use Rattle.raster.specs.Operation.{applied}
 use Rattle.raster.specs.Region.{among, position, same, painted}
 use Rattle.raster.specs.Join.{drawn, joined}
-use Rattle.raster.proofs.Pictures.{agree}
+use Rattle.plane.proofs.RunLaws.{agree}
 
 regroup : (h i j e f F d : Bool) → cond (h && (i && j)) (cond (e && f) F d) d ≡ cond (h && ((i && e) && (j && f))) F d
 regroup h i j e f F d = grind arith

@@ -1,4 +1,3 @@
-pub mod Pictures
 pub mod ClearLaws
 pub mod Confinement
 pub mod JoinLaws

@@ -20,6 +20,7 @@ use Rattle.state.specs.declared.reading.Reading.{Reading}
 use Rattle.state.specs.declared.terminal.Gin.{Gin}
 use Rattle.state.specs.declared.terminal.Gin.the-variants.{Off, On, AfterEscape}
 use Rattle.state.specs.declared.terminal.Place.{Place}
+use Rattle.state.specs.declared.terminal.Terminal.{Terminal}
 use Rattle.state.specs.Event.{Event, byte, stroke, point, reading, perform, reply}
 use Rattle.state.specs.Reply.{reply-of}
 use Rattle.runs.specs.declared.delivery.Delivery.{Delivery}
@@ -69,11 +70,13 @@ first-of (Some r) o = Some r
 first-of None o = o
 
 -- no key has a number above 149, in graphics input above 127; where a stroke would wait, every place may be taken
+abbrev pub own-refusal : Terminal → ℕ → ℕ → ℕ → Option Refusal
+own-refusal t n waits places =
+    cond (ltb 149 n || (in-gin (t .gin) && ltb 127 n)) (because Key 9 refl)
+    (cond ((t .locked && not (in-gin (t .gin))) && leb places waits) (because QueueFull 10 refl) None)
+
 abbrev pub key-refusal : Set → ℕ → Option Refusal
-key-refusal s n =
-    first-of (refusal s)
-    (cond (ltb 149 n || (in-gin (s .terminal .gin) && ltb 127 n)) (because Key 9 refl)
-    (cond ((s .terminal .locked && not (in-gin (s .terminal .gin))) && leb (s .places) (length (s .strokes))) (because QueueFull 10 refl) None))
+key-refusal s n = first-of (refusal s) (own-refusal (s .terminal) n (length (s .strokes)) (s .places))
 
 -- something of the stroke that has the number
 abbrev pub OfKey : Option Stroke → (Stroke → Type 0) → Type 0

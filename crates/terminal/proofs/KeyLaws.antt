@@ -11,13 +11,11 @@ use Rattle.std.proofs.shelf.Ways.{tells}
 use Rattle.keyboard.specs.declared.stroke.Stroke.{Stroke}
 use Rattle.refusal.specs.declared.Refusal.{Refusal}
 use Rattle.refusal.specs.declared.Refusal.the-variants.{Key, QueueFull}
-use Rattle.runs.specs.Calls.{first-of, in-gin}
-use Rattle.runs.specs.Set.{Set, refusal}
+use Rattle.runs.specs.Calls.{in-gin, own-refusal}
 use Rattle.state.specs.declared.terminal.Gin.{Gin}
 use Rattle.state.specs.declared.terminal.Gin.the-variants.{Off, On, AfterEscape}
 use Rattle.state.specs.declared.terminal.Terminal.{Terminal}
 use Rattle.state.specs.Reading.{stroke-action}
-use Rattle.terminal.specs.Key.{own-refusal}
 use Rattle.terminal.specs.Work.{Holds}
 
 -- a refusal is none
@@ -37,11 +35,3 @@ holds AfterEscape locked high k waits places e = tt
 
 pub stroke-holds : (t : Terminal) (k : Stroke) (number waits places : ℕ) → None ≡ own-refusal t number waits places → Holds (stroke-action (t .gin) (t .locked) k) waits places
 stroke-holds t k number waits places e = holds (t .gin) (t .locked) (ltb 149 number || (in-gin (t .gin) && ltb 127 number)) k waits places (sym e)
-
--- the number is one of a key
-pub has-key : (t : Terminal) (number waits places : ℕ) → None ≡ own-refusal t number waits places → number ≤ 149
-has-key t number waits places e = low (ltb 149 number) (in-gin (t .gin) && ltb 127 number) _ (sym e) refl
-  where
-    low : (high more : Bool) (rest : Option Refusal) → cond (high || more) (Some Key) rest ≡ None → ltb 149 number ≡ high → number ≤ 149
-    low true more rest e is = some-none e
-    low false more rest e is = let f : ltb 149 number ≡ false = is in grind (arith, tells)

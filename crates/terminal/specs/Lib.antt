@@ -1,4 +1,3 @@
 pub mod Install
-pub mod Key
 pub mod Reply
 pub mod Work

@@ -1,5 +1,6 @@
 use mathlib.Core.Path.{_≡_}
-use Rattle.printout.specs.Ink.{row, count}
+use Rattle.printout.specs.Ink.{row}
+use Rattle.plane.specs.Run.{how-many as count}
 use Rattle.printout.proofs.ink.has_ink.Given as given
 
 abbrev pub Inv-loop-x : given.InvT-loop-x

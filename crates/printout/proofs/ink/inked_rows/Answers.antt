@@ -3,7 +3,8 @@ use mathlib.Core.Bool.{Bool}
 use mathlib.Core.Path.{_≡_, sym, ap, _∙_}
 use Prim.Native.Nat.{ℕ, _+_}
 use lib.Dec.{ltb}
-use Rattle.printout.specs.Ink.{row, count}
+use Rattle.printout.specs.Ink.{row}
+use Rattle.plane.specs.Run.{how-many as count}
 use Rattle.printout.proofs.InkLaws.{count-le, count-set, count-unset}
 use Rattle.printout.proofs.ink.inked_rows.Needs as need
 use Rattle.printout.proofs.ink.inked_rows.Needs.{then-has-ink, else-has-ink}

@@ -1,6 +1,7 @@
 use mathlib.Core.Path.{_≡_}
 use lib.Dec.{ltb}
-use Rattle.printout.specs.Ink.{row, count}
+use Rattle.printout.specs.Ink.{row}
+use Rattle.plane.specs.Run.{how-many as count}
 use Rattle.printout.proofs.ink.inked_rows.Given as given
 
 abbrev pub Inv-loop-y : given.InvT-loop-y

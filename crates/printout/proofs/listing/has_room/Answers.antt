@@ -3,7 +3,8 @@ use Prim.Native.Nat.{ℕ}
 use native.Mathlib.Omega.{arith}
 use lib.Dec.{leb, ltb}
 use Rattle.std.proofs.shelf.Tests.{le-leb}
-use Rattle.printout.specs.Ink.{row, count}
+use Rattle.printout.specs.Ink.{row}
+use Rattle.plane.specs.Run.{how-many as count}
 use Rattle.printout.proofs.InkLaws.{count-le}
 use Rattle.printout.proofs.ListingLaws.{rows-length}
 use Rattle.printout.proofs.listing.has_room.Needs as need
