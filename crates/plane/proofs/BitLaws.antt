@@ -1,11 +1,11 @@
 -- A number of which one bit is flipped.
-use Rattle.std.proofs.Common.{◌≡◌, ℕ, ◌+◌, ◌-◌, ◌*◌, ◌/◌, ◌%◌, ◌^◌, ◌<◌, Bool, true, false, cond, not, eqb, ◌⊎◌, sym, refl, ap, ◌∙◌, inl, inr, arith, pow_pos, pow-add, shr-shr}
+use Rattle.std.proofs.Common.{◌≡◌, ℕ, ◌+◌, ◌-◌, ◌*◌, ◌/◌, ◌%◌, ◌^◌, ◌<◌, Bool, true, false, cond, not, eqb, ◌⊎◌, sym, refl, ap, ◌∙◌, inl, inr, arith, pow_pos, pow-add}
 use mathlib.Core.Bool.{beq}
 use native.Mathlib.Nat.{div-eq_of_lt, div_self, mul-mod_left}
 use lib.Bits.{bit_and, bit_xor, xor_shr, xor_mod, and_mask}
-use lib.Pow.{pow-lt, shl-shr, field, mod-mod-pow}
+use lib.Pow.{pow-lt, shl-shr}
 use Rattle.std.proofs.lemmas.Bool.{true≢false, cases_eq, cases_order, eq-eqb, ne_eqb, cond-false}
-use Rattle.operation.specs.Bits.{bit}
+use Rattle.plane.specs.Bits.{bit}
 
 -- what `(n >> k) & 1 == 1` tells
 pub asked : (n k : ℕ) → eqb (bit_and (n / 2 ^ k) 1) 1 ≡ bit n k
@@ -58,12 +58,3 @@ flipped n k r b is ne j =
     other true false n = refl
     other false true n = refl
     other false false n = absurd (true≢false n)
-
--- the bits of a byte that is shifted
-pub shifted_right : (n d j : ℕ) → bit (n / 2 ^ d) j ≡ bit n (d + j)
-shifted_right n d j = ap (λ t. eqb (t % 2) 1) (shr-shr n d j)
-
-pub shifted_left : (n d j : ℕ) → d + j < 8 → bit ((n * 2 ^ d) % 2 ^ 8) (d + j) ≡ bit n j
-shifted_left n d j lt =
-    let e : 8 ≡ (7 - (d + j) + 1) + (d + j) = omega arith in
-    ap (λ t. eqb t 1) (ap (λ t. (n * 2 ^ d) % 2 ^ t / 2 ^ (d + j) % 2) e ∙ ap (λ t. t % 2) (field (n * 2 ^ d) (7 - (d + j) + 1) (d + j)) ∙ mod-mod-pow (n * 2 ^ d / 2 ^ (d + j)) (7 - (d + j)) 1 ∙ ap (λ t. t % 2) (sym (shr-shr (n * 2 ^ d) d j) ∙ ap (λ t. t / 2 ^ j) (shl-shr n d)))

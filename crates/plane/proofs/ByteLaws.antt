@@ -5,7 +5,7 @@ use lib.Count.{ones, ones_step}
 use Rattle.std.proofs.lemmas.Nat.{mul-add-lt, shr-shr}
 use Rattle.std.proofs.lemmas.Bool.{cases_eq, cases_lt, eq-eqb, lt-ltb, le-ltb, cond-false}
 use Rattle.std.proofs.lemmas.Bool.Decides.{nat_tests}
-use Rattle.operation.specs.Bits.{bit}
+use Rattle.plane.specs.Bits.{bit}
 use Rattle.plane.specs.Layout.{Layout, rows, shown}
 use Rattle.plane.specs.Run.{on_run, mapped, differ, how_many, changes}
 use Rattle.plane.proofs.CountLaws.{in_two_parts, only_these, same_number, same_bit}

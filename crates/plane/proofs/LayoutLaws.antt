@@ -4,7 +4,7 @@ use mathlib.Core.Path.{fun_ext}
 use Rattle.std.proofs.lemmas.Nat.{mul-add-lt, div-mul-add, mod-mul-add}
 use Rattle.std.proofs.lemmas.Bool.{cases_eq, cases_lt, eq-eqb, ne_eqb, lt-ltb, le-ltb, le-leb, leb-true, ltb-true, and_parts, and_from, and_left, and_right, cond-true, cond-false, false≢true}
 use Rattle.std.proofs.lemmas.Bool.Decides.{nat_tests}
-use Rattle.operation.specs.Bits.{bit}
+use Rattle.plane.specs.Bits.{bit}
 use Rattle.plane.specs.Layout.{Layout, rows, tiles, given, held, found, nothing}
 use Rattle.plane.specs.Picture.{Picture, has, with_bits, put}
 

@@ -2,7 +2,7 @@
 use Rattle.std.proofs.Common.{◌≡◌, ℕ, zero, suc, ◌-◌, ◌/◌, ◌^◌, ◌<◌, ◌≤◌, Bool, true, false, cond, not, ◌&&◌, ◌||◌, ltb, leb, ◌⊎◌, sym, refl, ap, ◌∙◌, inl, inr, arith}
 use lib.Bits.{bit_and, bit_or, bit_xor}
 use Rattle.std.proofs.lemmas.Bool.{cases_eq, and_parts, le-ltb, false≢true}
-use Rattle.operation.specs.Bits.{bit}
+use Rattle.plane.specs.Bits.{bit}
 use Rattle.plane.specs.Run.{differ}
 use Rattle.plane.proofs.ByteLaws.{bit_of_and, bit_of_or, bit_of_xor}
 
@@ -36,7 +36,7 @@ places_bits lo hi le most i lt =
     let law : lawful lo hi i ≡ true = at_each 8 (lawful lo hi) of_hi i lt in
     same_of _ _ (ap (λ t. t || not (differ (bit (bit_xor (255 / 2 ^ lo) (255 / 2 ^ hi)) (7 - i)) (leb lo i && ltb i hi))) (sym (le-ltb hi lo le)) ∙ law)
 
-pub full : (j : ℕ) → j < 8 → bit 255 j ≡ true
+full : (j : ℕ) → j < 8 → bit 255 j ≡ true
 full j lt = at_each 8 (bit 255) refl j lt
 
 -- a law of two bits
@@ -59,20 +59,13 @@ module _ (old mask j : ℕ) where
   pub with_others : bit (bit_xor old mask) j ≡ cond (bit mask j) (cond (bit old j) false true) (bit old j)
   with_others = bit_of_xor old mask j ∙ both_bits (λ a m. differ a m ≡ cond m (cond a false true) a) refl refl refl refl (bit old j) (bit mask j)
 
--- the bit of b at a 1 of the mask, that of a at a 0
-pub chosen_bit : (mask a b j : ℕ) → bit (bit_xor a (bit_and (bit_xor b a) mask)) j ≡ cond (bit mask j) (bit b j) (bit a j)
-chosen_bit mask a b j =
-    bit_of_xor a (bit_and (bit_xor b a) mask) j
-    ∙ ap (differ (bit a j)) (bit_of_and (bit_xor b a) mask j ∙ ap (λ t. t && bit mask j) (bit_of_xor b a j))
-    ∙ by_mask (bit mask j) (bit a j) (bit b j)
+-- the bits that differ, taken at the mask and put back, are the source there
+pub taken : (old source mask j : ℕ) → bit (bit_xor old (bit_and (bit_xor old source) mask)) j ≡ cond (bit mask j) (bit source j) (bit old j)
+taken old source mask j =
+    bit_of_xor old (bit_and (bit_xor old source) mask) j
+    ∙ ap (differ (bit old j)) (bit_of_and (bit_xor old source) mask j ∙ ap (λ t. t && bit mask j) (bit_of_xor old source j))
+    ∙ by_mask (bit mask j) (bit old j) (bit source j)
   where
-    by_mask : (m x z : Bool) → differ x (differ z x && m) ≡ cond m z x
-    by_mask true = both_bits (λ x z. differ x (differ z x && true) ≡ z) refl refl refl refl
-    by_mask false = both_bits (λ x z. differ x (differ z x && false) ≡ x) refl refl refl refl
-
--- a table of what f makes of two bits
-pub by_table : (f : Bool → Bool → Bool) (s a both source old neither : Bool) → both ≡ f true true → source ≡ f true false → old ≡ f false true → neither ≡ f false false → cond s (cond a both source) (cond a old neither) ≡ f s a
-by_table f true true both source old neither e1 e2 e3 e4 = e1
-by_table f true false both source old neither e1 e2 e3 e4 = e2
-by_table f false true both source old neither e1 e2 e3 e4 = e3
-by_table f false false both source old neither e1 e2 e3 e4 = e4
+    by_mask : (m a s : Bool) → differ a (differ a s && m) ≡ cond m s a
+    by_mask true = both_bits (λ a s. differ a (differ a s && true) ≡ s) refl refl refl refl
+    by_mask false = both_bits (λ a s. differ a (differ a s && false) ≡ a) refl refl refl refl

@@ -1,5 +1,5 @@
 -- A run that grows by one place or by a part, with the number of bits it changes.
-use Rattle.std.proofs.Common.{◌≡◌, ℕ, ◌+◌, ◌≤◌, min, max, Bool, true, false, cond, not, ◌&&◌, ◌⊎◌, Ok, Err, Result, sym, refl, ap, ◌∙◌, inl, inr, arith}
+use Rattle.std.proofs.Common.{◌≡◌, ℕ, ◌+◌, ◌<◌, ◌≤◌, min, max, Bool, true, false, cond, not, ◌&&◌, ◌⊎◌, Ok, Err, Result, sym, refl, ap, ◌∙◌, inl, inr, arith}
 use mathlib.Core.Path.{fun_ext}
 use mathlib.Core.Bool.{beq}
 use Rattle.std.proofs.lemmas.Bool.{cases_lt, cases_eq, and_parts, ltb-true, true≢false, false≢true}
@@ -18,36 +18,22 @@ pub record Done (y x0 x1 : ℕ) (g : ℕ → Bool → Bool) (p q : Picture) (n :
   pub picture : q ≡ mapped y x0 x1 g p
   pub count : n ≡ changes y p q
 
--- the parts from a to b and from x to e touch, and together go from lo to hi
-pub data Touch (a b x e lo hi : ℕ) : Type 0 where
-  at_right : lo ≡ a → x ≡ b → e ≡ hi → Touch a b x e lo hi
-  at_left : lo ≡ x → e ≡ a → b ≡ hi → Touch a b x e lo hi
-
--- two parts that touch, done one after the other, are one run
-module _ (y : ℕ) (g : ℕ → Bool → Bool) (p : Picture) (a b x e lo hi : ℕ) (le : a ≤ b) (le' : x ≤ e) where
-  in_parts : Touch a b x e lo hi → mapped y x e g (mapped y a b g p) ≡ mapped y lo hi g p
-  in_parts (at_right l m h) = agree p _ _ (λ u v. grind (arith, nat_tests))
-  in_parts (at_left l m h) = agree p _ _ (λ u v. grind (arith, nat_tests))
-
-  in_one_part : Touch a b x e lo hi → (u : ℕ) → ((mapped y a b g p).at u y ≡ p.at u y) ⊎ ((mapped y x e g (mapped y a b g p)).at u y ≡ (mapped y a b g p).at u y)
-  in_one_part (at_right l m h) u =
-      elim (cases_lt u b) [ inl lt ↦ inr (grind (arith, nat_tests)) | inr ge ↦ inl (grind (arith, nat_tests)) ]
-  in_one_part (at_left l m h) u =
-      elim (cases_lt u a) [ inl lt ↦ inl (grind (arith, nat_tests)) | inr ge ↦ inr (grind (arith, nat_tests)) ]
-
-  pub grown : (q r : Picture) (m n : ℕ) → Touch a b x e lo hi → Done y a b g p q m → Done y x e g q r n → Done y lo hi g p r (m + n)
-  grown q r m n touch d more =
-      let is : r ≡ mapped y x e g (mapped y a b g p) = more.picture ∙ ap (mapped y x e g) d.picture in
-      record {
-        picture = is ∙ in_parts touch;
-        count = rw (d.count, more.count, is, d.picture) (sym (changes_sum y p (mapped y a b g p) (mapped y x e g (mapped y a b g p)) refl (in_one_part touch)));
-      }
-
 module _ (y x0 : ℕ) (g : ℕ → Bool → Bool) (p : Picture) where
+  in_parts : (x x1 : ℕ) → x0 ≤ x → x ≤ x1 → mapped y x x1 g (mapped y x0 x g p) ≡ mapped y x0 x1 g p
+  in_parts x x1 le le' = agree p _ _ (λ u v. grind (arith, nat_tests))
+
+  in_one_part : (x x1 u : ℕ) → x0 ≤ x → x ≤ x1 → ((mapped y x0 x g p).at u y ≡ p.at u y) ⊎ ((mapped y x x1 g (mapped y x0 x g p)).at u y ≡ (mapped y x0 x g p).at u y)
+  in_one_part x x1 u le le' =
+      elim (cases_lt u x) [ inl lt ↦ inr (grind (arith, nat_tests)) | inr ge ↦ inl (grind (arith, nat_tests)) ]
+
   -- first as far as x, then from there; where the second part ends is left to be shown
   pub longer : (x : ℕ) {e : ℕ} (x1 : ℕ) (q r : Picture) (m n : ℕ) → x0 ≤ x → x ≤ x1 → Done y x0 x g p q m → Done y x e g q r n → e ≡ x1 → Done y x0 x1 g p r (m + n)
-  longer x {e} x1 q r m n le le' d more end =
-      grown y g p x0 x x e x0 x1 le (omega arith) q r m n (at_right refl refl end) d more
+  longer x x1 q r m n le le' d more end =
+      let is : r ≡ mapped y x x1 g (mapped y x0 x g p) = more.picture ∙ ap (λ t. mapped y x t g q) end ∙ ap (mapped y x x1 g) d.picture in
+      record {
+        picture = is ∙ in_parts x x1 le le';
+        count = rw (d.count, more.count, is, d.picture) (sym (changes_sum y p (mapped y x0 x g p) (mapped y x x1 g (mapped y x0 x g p)) refl (λ u. in_one_part x x1 u le le')));
+      }
 
   pub one_longer : (x : ℕ) (q r : Picture) (m n : ℕ) → x0 ≤ x → Done y x0 x g p q m → Done y x (x + 1) g q r n → Done y x0 (x + 1) g p r (m + n)
   one_longer x q r m n le d more = longer x (x + 1) q r m n le (omega arith) d more refl

@@ -1,7 +1,5 @@
 -- Runs: neighbouring places of one row, and what is done to all of them at once.
 use Rattle.std.specs.Prelude.{ℕ, zero, suc, ◌+◌, ◌-◌, Bool, true, false, cond, not, ◌&&◌, ◌==◌, nat_le, nat_lt}
-use Rattle.operation.specs.Operation.{applied}
-use Rattle.operation.specs.declared.Operation.{Operation}
 use Rattle.plane.specs.Picture.{Picture, has, with_bits}
 
 -- whether (u, v) is one of the places of row y from x0 on and before x1
@@ -20,13 +18,13 @@ filled_run y x0 x1 b = mapped y x0 x1 (λ _ _. b)
 abbrev pub joined_run : ℕ → ℕ → ℕ → Bool → Bool → Picture → Picture
 joined_run y x0 x1 off on = mapped y x0 x1 (λ _ old. cond old on off)
 
--- what a copy makes of the bit `old` at u: joined with the bit of row sy as far from sx as u is from x0; `old` where p has no such place
-abbrev pub from_row : Operation → Picture → ℕ → ℕ → ℕ → ℕ → Bool → Bool
-from_row o p x0 sy sx u old = cond (has p (u - x0 + sx) sy) (applied o (p.at (u - x0 + sx) sy) old) old
+-- what a copy brings to u: the bit of row sy as far from sx as u is from x0, or `old` where p has no such place
+abbrev pub from_row : Picture → ℕ → ℕ → ℕ → ℕ → Bool → Bool
+from_row p x0 sy sx u old = cond (has p (u - x0 + sx) sy) (p.at (u - x0 + sx) sy) old
 
--- the run joined with row sy, from sx on; all sources are those of p, also where sy is y
-abbrev pub copied_run : Operation → ℕ → ℕ → ℕ → ℕ → ℕ → Picture → Picture
-copied_run o y x0 x1 sy sx p = mapped y x0 x1 (from_row o p x0 sy sx) p
+-- the run copied from row sy, from sx on; a row is never copied onto itself, so there the picture stays
+abbrev pub copied_run : ℕ → ℕ → ℕ → ℕ → ℕ → Picture → Picture
+copied_run y x0 x1 sy sx p = cond (sy == y) p (mapped y x0 x1 (from_row p x0 sy sx) p)
 
 abbrev pub differ : Bool → Bool → Bool
 differ true b = not b

@@ -1,6 +1,6 @@
 //! One bit of a number.
 ghost use Rattle.std.specs.Prelude.{◌≡◌, ℕ, ◌<◌, if◌then◌else◌, nat_eq};
-ghost use Rattle.operation.specs.Bits.{bit};
+ghost use Rattle.plane.specs.Bits.{bit};
 
 /// Bit k of n.
 pub(crate) fn bit_of(n: u64, k: usize) -> bool

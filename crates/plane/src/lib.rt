@@ -1,18 +1,16 @@
 //! Planes: a width, a height and one bit for each place. (0, 0) is lower left, and 1 is foreground.
-ghost use Rattle.std.specs.Prelude.{◌≡◌, ℕ, ◌+◌, ◌-◌, ◌≤◌, min, Bool, false, if◌then◌else◌, Err};
+ghost use Rattle.std.specs.Prelude.{◌≡◌, ℕ, Bool, false, if◌then◌else◌, Err};
 ghost use Rattle.refusal.specs.declared.Refusal.TheVariants.{Outside};
 ghost use Rattle.plane.specs.Picture.{Picture, has, put, asked, answered};
 ghost use Rattle.plane.specs.Run.{filled_run, joined_run, copied_run, changes};
 
 mod bits;
-mod bytecopy;
 mod bytewise;
 pub mod memory;
 pub mod packed;
 pub mod tiled;
 pub mod turned;
 
-use operation::Operation;
 use refusal::Refusal;
 
 // `one` for a bit 1, `zero` for a bit 0.
@@ -20,22 +18,6 @@ fn by_bit(old: bool, zero: bool, one: bool) -> bool
     ensures { result ≡ (if old then one else zero) }
 {
     if old { one } else { zero }
-}
-
-// How many places from x0 on and before x1 a copy from sx on changes: past the width there is no place, or no source.
-fn span(width: usize, x0: usize, x1: usize, sx: usize) -> usize
-    ensures { result ≡ min (width - sx) (min x1 width - x0) }
-{
-    let room = x1.min(width).saturating_sub(x0);
-    width.saturating_sub(sx).min(room)
-}
-
-// Where the next n of len places begin after k of them: onwards from the left end, or leftwards from the right one.
-fn in_turn(k: usize, n: usize, len: usize, leftwards: bool) -> usize
-    requires { k + n ≤ len }
-    ensures { result ≡ (if leftwards then len - k - n else k) }
-{
-    if leftwards { len - k - n } else { k }
 }
 
 /// One bit for each place of a size that never changes, however it lies in memory.
@@ -94,29 +76,22 @@ pub trait Plane {
     }
 
     /// The same as `copy_run`, place by place. A faster `copy_run` falls back on it, so no plane replaces it.
-    fn copy_places(
-        &mut self,
-        operation: Operation,
-        y: usize,
-        x0: usize,
-        x1: usize,
-        sy: usize,
-        sx: usize,
-    ) -> usize
-        ensures picture { picture self.new ≡ copied_run operation y x0 x1 sy sx (picture self.old) }
+    fn copy_places(&mut self, y: usize, x0: usize, x1: usize, sy: usize, sx: usize) -> usize
+        ensures picture { picture self.new ≡ copied_run y x0 x1 sy sx (picture self.old) }
         ensures count { result ≡ changes y (picture self.old) (picture self.new) }
     {
-        let len = span(self.width(), x0, x1, sx);
-        // So no place of the same row is changed before it is read.
-        let leftwards = sx < x0;
+        if sy == y {
+            return 0;
+        }
+        // Past the width there is no place to change, or none to copy from.
+        let width = self.width();
+        let room = x1.min(width).saturating_sub(x0);
+        let len = width.saturating_sub(sx).min(room);
         let mut count = 0;
-        for k in 0..len {
-            let i = in_turn(k, 1, len, leftwards);
+        for i in 0..len {
             match self.ask(sx + i, sy) {
-                Ok(source) => {
-                    let zero = operation.combine(source, false);
-                    let one = operation.combine(source, true);
-                    count += self.join_run(y, x0 + i, x0 + i + 1, zero, one);
+                Ok(bit) => {
+                    count += self.fill_run(y, x0 + i, x0 + i + 1, bit);
                 }
                 Err(_) => {}
             }
@@ -124,20 +99,12 @@ pub trait Plane {
         count
     }
 
-    /// Joins to row y, from x0 on and before x1, what row sy has from sx on, by an operation. Answers how many bits
-    /// it changed. A place with no source stays. All sources are as they were before, also where a row is its own source.
-    fn copy_run(
-        &mut self,
-        operation: Operation,
-        y: usize,
-        x0: usize,
-        x1: usize,
-        sy: usize,
-        sx: usize,
-    ) -> usize
-        ensures picture { picture self.new ≡ copied_run operation y x0 x1 sy sx (picture self.old) }
+    /// Copies to row y, from x0 on and before x1, what row sy has from sx on. Answers how many bits it changed.
+    /// A place with no source stays. So does the row where sy is y: a copy onto itself would depend on the order.
+    fn copy_run(&mut self, y: usize, x0: usize, x1: usize, sy: usize, sx: usize) -> usize
+        ensures picture { picture self.new ≡ copied_run y x0 x1 sy sx (picture self.old) }
         ensures count { result ≡ changes y (picture self.old) (picture self.new) }
     {
-        self.copy_places(operation, y, x0, x1, sy, sx)
+        self.copy_places(y, x0, x1, sy, sx)
     }
 }

@@ -3,12 +3,10 @@ ghost use Rattle.std.specs.Prelude.{◌≡◌, ◌*◌, ◌/◌, ◌<◌, length
 ghost use Rattle.plane.specs.Memory.{fits};
 ghost use Rattle.plane.specs.Layout.{rows, held, held_dark, found, made_of_bytes};
 
+use crate::Plane;
 use crate::bits::{bit_of, with_bit};
-use crate::bytecopy::copy_in_row;
-use crate::bytewise::join_in_row;
+use crate::bytewise::{copy_in_row, join_in_row};
 use crate::memory::check_bytes;
-use crate::{Plane, span};
-use operation::Operation;
 use refusal::Refusal;
 
 // No invariant: a stride of bytes makes the width a multiple of 8, and each call looks whether the memory has room.
@@ -115,22 +113,23 @@ impl Plane for Packed<'_> {
         }
     }
 
-    fn copy_run(
-        &mut self,
-        operation: Operation,
-        y: usize,
-        x0: usize,
-        x1: usize,
-        sy: usize,
-        sx: usize,
-    ) -> usize {
+    // Whole bytes where both runs lie alike in them, and the source all inside.
+    fn copy_run(&mut self, y: usize, x0: usize, x1: usize, sy: usize, sx: usize) -> usize {
         let stride = self.stride as usize;
         let height = self.height as usize;
-        let len = span(8 * stride, x0, x1, sx);
-        if self.has_room() && y < height && sy < height {
-            copy_in_row(self.memory, stride, height, operation, y, x0, len, sy, sx)
+        let end = x1.min(8 * stride);
+        if self.has_room()
+            && y < height
+            && sy < height
+            && sy != y
+            && x0 < end
+            && x0 % 8 == sx % 8
+            && sx < 8 * stride
+            && sx + (end - x0) <= 8 * stride
+        {
+            copy_in_row(self.memory, stride, height, y, x0, end, sy, sx)
         } else {
-            self.copy_places(operation, y, x0, x1, sy, sx)
+            self.copy_places(y, x0, x1, sy, sx)
         }
     }
 }

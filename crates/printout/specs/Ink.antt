@@ -2,7 +2,7 @@
 use Rattle.std.specs.Prelude.{◌≡◌, ℕ, zero, suc, ◌+◌, ◌<◌, ◌≤◌, Bool, true, false, cond, ◌==◌, nat_lt}
 use Rattle.plane.specs.Picture.{Picture}
 use Rattle.plane.specs.Run.{how_many as count}
-use Rattle.regions.specs.declared.size.Size.{Size}
+use Rattle.state.specs.declared.setup.Size.{Size}
 use Rattle.printout.specs.declared.ink.Ink.{Ink}
 
 -- row y of a picture

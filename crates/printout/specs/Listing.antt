@@ -8,7 +8,6 @@ use Rattle.plane.specs.Picture.{Picture}
 use Rattle.refusal.specs.declared.Refusal.{Refusal}
 use Rattle.refusal.specs.declared.Refusal.TheVariants.{PlaneSize, Buffer}
 use Rattle.refusal.specs.Number.{refused}
-use Rattle.regions.specs.Regions.{chosen}
 use Rattle.state.specs.declared.terminal.Terminal.{Terminal}
 use Rattle.state.specs.Size.{same_size}
 use Rattle.printout.specs.declared.ink.Ink.{Ink}
@@ -31,10 +30,10 @@ rows p w (suc y) = row_text p w y ++ rows p w y
 -- x, y, emulation, region
 abbrev pub last_line : Terminal → Line
 last_line t = record {
-  first = signed (chosen t.regions).position.x;
-  second = signed (chosen t.regions).position.y;
+  first = signed t.window.position.x;
+  second = signed t.window.position.y;
   third = unsigned (number_of t.emulation);
-  fourth = unsigned t.regions.selected.number;
+  fourth = unsigned t.window.number;
 }
 
 abbrev pub text : Terminal → Picture → List ℕ

@@ -4,7 +4,7 @@ ghost use Rattle.plane.specs.Run.{how_many};
 ghost use Rattle.printout.specs.Ink.{row, one_more, inked, inked_rows as rows_with_ink};
 
 use plane::Plane;
-use regions::size::Size;
+use state::setup::Size;
 
 /// All 0 where the row has none.
 #[derive(Clone, Copy)]

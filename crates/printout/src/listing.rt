@@ -9,7 +9,7 @@ use columns::line::{LENGTH, Line};
 use columns::number::Number;
 use plane::Plane;
 use refusal::Refusal;
-use regions::size::Size;
+use state::setup::Size;
 use state::terminal::Terminal;
 
 // The line of a row with ink.
@@ -28,9 +28,9 @@ fn row_line(y: u16, ink: Ink) -> Line
 fn last_line(terminal: &Terminal) -> Line
     ensures { result ≡ closing terminal.now }
 {
-    let position = terminal.regions.current().position;
+    let position = terminal.window.position;
     let emulation = terminal.emulation.number() as u16;
-    let region = terminal.regions.selected.number as u16;
+    let region = terminal.window.number as u16;
     Line {
         first: Number::from(position.x),
         second: Number::from(position.y),

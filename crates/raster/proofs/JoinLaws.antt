@@ -1,21 +1,29 @@
 -- A point of a region by the place that it has in the plane.
-use Rattle.std.proofs.Common.{◌≡◌, ℕ, Bool, false, ◌&&◌, eqb, ℤ, refl, ◌∙◌, arith}
+use Rattle.std.proofs.Common.{◌≡◌, ℕ, Bool, true, false, cond, ◌&&◌, eqb, ℤ, sym, refl, ◌∙◌, arith}
 use Rattle.std.proofs.lemmas.Bool.Decides.{nat_tests}
-use Rattle.plane.specs.Picture.{Picture}
-use Rattle.plane.proofs.RunLaws.{agree}
-use Rattle.operation.specs.declared.Operation.{Operation}
-use Rattle.operation.specs.Operation.{applied}
+use Rattle.plane.specs.Picture.{Picture, has, with_bits}
+use Rattle.raster.specs.declared.operation.Operation.{Operation}
 use Rattle.raster.specs.declared.region.Region.{Region}
+use Rattle.raster.specs.declared.region.Point.{Point}
+use Rattle.raster.specs.Operation.{applied}
 use Rattle.raster.specs.Region.{among, position, same, painted}
-use Rattle.raster.specs.Join.{drawn, dot}
-use Rattle.raster.proofs.PaintLaws.{picked}
+use Rattle.raster.specs.Join.{drawn, joined}
+use Rattle.plane.proofs.RunLaws.{agree}
 
-module _ (p : Picture) (r : Region) (o : Operation) (s : Bool) (x y : ℤ) where
-  pub joined_at : (u v : ℕ) → ((a : ℕ) → (among r.left r.width a && same (position r.left a) x) ≡ eqb a u) → ((b : ℕ) → (among r.bottom r.height b && same (position r.bottom b) y) ≡ eqb b v) → drawn o s u v p ≡ painted r (dot o s x y) p
-  joined_at u v hx hy = agree p _ _ (λ a b. grind (arith, nat_tests)) ∙ picked p r (λ a. same a x) (λ b. same b y) (λ _ _. applied o s) (λ a. eqb a u) (λ b. eqb b v) hx hy
+regroup : (h i j e f F d : Bool) → cond (h && (i && j)) (cond (e && f) F d) d ≡ cond (h && ((i && e) && (j && f))) F d
+regroup h i j e f F d = grind arith
 
-  pub joined_beside : ((a : ℕ) → (among r.left r.width a && same (position r.left a) x) ≡ false) → p ≡ painted r (dot o s x y) p
-  joined_beside hx = agree p _ _ (λ a b. grind arith) ∙ picked p r (λ a. same a x) (λ b. same b y) (λ _ _. applied o s) (λ _. false) _ hx (λ _. refl)
+module _ (p : Picture) (r : Region) (o : Operation) (s : Bool) (t : Point) where
+  -- the point is at the places that pass both tests
+  picked : (sx sy : ℕ → Bool) → ((u : ℕ) → (among r.left r.width u && same (position r.left u) t.x) ≡ sx u) → ((v : ℕ) → (among r.bottom r.height v && same (position r.bottom v) t.y) ≡ sy v) → with_bits p (λ u v. cond (has p u v && (sx u && sy v)) (applied o s (p.at u v)) (p.at u v)) ≡ joined r o s t p
+  picked sx sy hx hy =
+      agree p _ _ (λ u v. sym (regroup (has p u v) (among r.left r.width u) (among r.bottom r.height v) (same (position r.left u) t.x) (same (position r.bottom v) t.y) (applied o s (p.at u v)) (p.at u v) ∙ rw (hx u, hy v) refl))
 
-  pub joined_above : ((b : ℕ) → (among r.bottom r.height b && same (position r.bottom b) y) ≡ false) → p ≡ painted r (dot o s x y) p
-  joined_above hy = agree p _ _ (λ a b. grind arith) ∙ picked p r (λ a. same a x) (λ b. same b y) (λ _ _. applied o s) _ (λ _. false) (λ _. refl) hy
+  pub joined_at : (x y : ℕ) → ((u : ℕ) → (among r.left r.width u && same (position r.left u) t.x) ≡ eqb u x) → ((v : ℕ) → (among r.bottom r.height v && same (position r.bottom v) t.y) ≡ eqb v y) → drawn o s x y p ≡ joined r o s t p
+  joined_at x y hx hy = agree p _ _ (λ a b. grind (arith, nat_tests)) ∙ picked (λ a. eqb a x) (λ b. eqb b y) hx hy
+
+  pub joined_beside : ((u : ℕ) → (among r.left r.width u && same (position r.left u) t.x) ≡ false) → p ≡ joined r o s t p
+  joined_beside hx = agree p _ _ (λ a b. grind arith) ∙ picked (λ _. false) _ hx (λ _. refl)
+
+  pub joined_above : ((v : ℕ) → (among r.bottom r.height v && same (position r.bottom v) t.y) ≡ false) → p ≡ joined r o s t p
+  joined_above hy = agree p _ _ (λ a b. grind arith) ∙ picked _ (λ _. false) (λ _. refl) hy

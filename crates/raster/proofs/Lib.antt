@@ -1,8 +1,4 @@
-pub mod Axis
+pub mod ClearLaws
 pub mod Confinement
-pub mod CopyLaws
-pub mod FillLaws
 pub mod JoinLaws
 pub mod LineLaws
-pub mod PaintLaws
-pub mod StripLaws

@@ -5,7 +5,7 @@ use Rattle.std.proofs.lemmas.Nat.{mul-le, div_below}
 use Rattle.std.proofs.lemmas.Bool.{cond-true, cond-false}
 use Rattle.std.proofs.lemmas.Int.{ints}
 use Rattle.plane.specs.Picture.{Picture}
-use Rattle.operation.specs.declared.Operation.{Operation}
+use Rattle.raster.specs.declared.operation.Operation.{Operation}
 use Rattle.raster.specs.declared.region.Region.{Region}
 use Rattle.raster.specs.declared.region.Point.{Point}
 use Rattle.raster.specs.Join.{joined}

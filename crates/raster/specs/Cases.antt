@@ -1,10 +1,10 @@
 -- Worked cases of the two rules.
 use Rattle.std.specs.Prelude.{◌≡◌, ℕ, true, false, pos}
 use Rattle.plane.specs.Picture.{Picture}
-use Rattle.operation.specs.declared.Operation.TheVariants.{Copy}
+use Rattle.raster.specs.declared.operation.Operation.TheVariants.{Copy}
 use Rattle.raster.specs.declared.region.Region.{Region}
 use Rattle.raster.specs.declared.region.Point.{Point}
-use Rattle.operation.specs.Operation.{combined}
+use Rattle.raster.specs.Operation.{combined}
 use Rattle.raster.specs.Line.{lined}
 
 abbrev pub blank : Picture

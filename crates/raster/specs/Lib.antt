@@ -1,10 +1,7 @@
 pub mod Cases
 pub mod Clear
 pub mod Confined
-pub mod Copy
-pub mod Fill
 pub mod Join
 pub mod Line
-pub mod Rectangle
+pub mod Operation
 pub mod Region
-pub mod Strip

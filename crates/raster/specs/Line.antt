@@ -1,7 +1,7 @@
 -- The points of a line.
 use Rattle.std.specs.Prelude.{ℕ, zero, suc, ◌+◌, ◌*◌, ◌/◌, max, Bool, true, cond, ℤ, pos, ◌+ℤ◌, ◌-ℤ◌, int_le, unsigned_abs}
 use Rattle.plane.specs.Picture.{Picture}
-use Rattle.operation.specs.declared.Operation.{Operation}
+use Rattle.raster.specs.declared.operation.Operation.{Operation}
 use Rattle.raster.specs.declared.region.Region.{Region}
 use Rattle.raster.specs.declared.region.Point.{Point}
 use Rattle.raster.specs.Join.{joined}

@@ -1,8 +1,6 @@
-//! Drawing by raster operations inside a region of any plane.
-pub mod copy;
-pub mod fill;
+//! Raster operations, and drawing by them inside a region of any plane.
+pub mod clear;
 pub mod join;
 pub mod line;
-pub mod rectangle;
+pub mod operation;
 pub mod region;
-pub mod strip;

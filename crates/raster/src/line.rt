@@ -6,8 +6,8 @@ ghost use Rattle.raster.specs.Line.{toward as along, lined};
 ghost use Rattle.raster.specs.Cases.{Worked};
 
 use crate::join::join;
+use crate::operation::Operation;
 use crate::region::{Point, Region};
-use operation::Operation;
 use plane::Plane;
 
 // How far point i of n lies from the start, where the end lies at a distance. The products fit: every factor is below 2^16.

@@ -19,10 +19,10 @@ pub struct Point {
 }
 
 // One axis of a region of `size` places from `low` on: the place of a coordinate that lies in it.
-pub(crate) fn place(low: u16, size: u16, coordinate: i32) -> Option<usize>
+pub(crate) fn place(low: u16, size: u16, coordinate: i16) -> Option<usize>
     ensures { (u : ℕ) → (among low size u && same (position low u) coordinate) ≡ met result u }
 {
-    if coordinate >= 0 && (coordinate as u32) < size as u32 {
+    if coordinate >= 0 && (coordinate as u16) < size {
         Some(low as usize + coordinate as usize)
     } else {
         None

@@ -5,18 +5,17 @@ use Rattle.keyboard.specs.declared.stroke.Stroke.{Stroke}
 use Rattle.plane.specs.Picture.{Picture}
 use Rattle.raster.specs.Clear.{cleared}
 use Rattle.raster.specs.Confined.{Alike, Confined}
+use Rattle.raster.specs.Line.{lined}
 use Rattle.raster.specs.Region.{inside}
-use Rattle.raster.proofs.Confinement.{confined_same, confined_painted, confined_lined, confined_filled, confined_copied, confined_strip}
-use Rattle.regions.specs.Area.{plane_region}
-use Rattle.regions.specs.Regions.{chosen}
-use Rattle.actions.specs.declared.action.Action.{Action}
-use Rattle.actions.specs.declared.action.Action.TheVariants.{Nothing, Control, Draw, Region, Gin, Key, Aim}
-use Rattle.actions.specs.declared.action.Control.TheVariants.{Lock, Unlock, Acknowledge, Report, Reset, LastPoint}
-use Rattle.actions.specs.declared.action.Drawing.TheVariants.{Move, Line, Fill, Copy, Begin, Paint}
+use Rattle.raster.proofs.Confinement.{confined_same, confined_painted, confined_lined}
+use Rattle.state.specs.declared.action.Action.{Action}
+use Rattle.state.specs.declared.action.Action.TheVariants.{Nothing, Control, Draw, Gin, Key, Aim}
+use Rattle.state.specs.declared.action.Control.TheVariants.{Lock, Unlock, Acknowledge, Report, Reset}
+use Rattle.state.specs.declared.action.Drawing.TheVariants.{Move, Line}
 use Rattle.state.specs.declared.terminal.Terminal.{Terminal}
 use Rattle.state.specs.Event.{Event, Seen, sight, reading, next, reply, after, replies}
 use Rattle.state.specs.Step.{state_after, picture_after, strokes_after}
-use Rattle.state.specs.Terminal.{area_of, with_reading}
+use Rattle.state.specs.Terminal.{whole, with_parser}
 use Rattle.runs.specs.Laws.{selected, counted}
 
 -- one set of places holds another
@@ -41,11 +40,7 @@ confined_more r o f h c = record {
 
 -- the region selected before an action, and the one after it
 abbrev pub reach : Terminal → Action → ℕ → ℕ → Bool
-reach t a x y = inside (area_of t) x y || inside (area_of (state_after t a)) x y
-
--- drawing in the region selected before the action
-before : (t : Terminal) (a : Action) (f : Picture → Picture) → Confined (inside (area_of t)) f → Confined (reach t a) f
-before t a f c = confined_more (inside (area_of t)) (reach t a) f (λ x y i. or_left (inside (area_of t) x y) (inside (area_of (state_after t a)) x y) i) c
+reach t a x y = inside t.window.area x y || inside (state_after t a).window.area x y
 
 -- every action
 pub confined : (t : Terminal) (a : Action) → Confined (reach t a) (picture_after t a)
@@ -55,20 +50,15 @@ confined t (Control Unlock) = confined_same (reach t (Control Unlock))
 confined t (Control Acknowledge) = confined_same (reach t (Control Acknowledge))
 confined t (Control Report) = confined_same (reach t (Control Report))
 confined t (Control Reset) =
-    let whole = plane_region t.setup.size in
-    confined_more (inside whole) (reach t (Control Reset)) (cleared whole)
-    (λ x y i. or_right (inside (area_of t) x y) (inside whole x y) i)
-    (confined_painted whole (λ _ _ _. false))
-confined t (Control (LastPoint on)) = confined_same (reach t (Control (LastPoint on)))
+    confined_more (inside (whole t.setup)) (reach t (Control Reset)) (cleared (whole t.setup))
+    (λ x y i. or_right (inside t.window.area x y) (inside (whole t.setup) x y) i)
+    (confined_painted (whole t.setup) (λ _ _ _. false))
 confined t (Draw (Move to)) = confined_same (reach t (Draw (Move to)))
 confined t (Draw (Line to)) =
-    let w = chosen t.regions in
-    before t (Draw (Line to)) (picture_after t (Draw (Line to))) (confined_lined (area_of t) w.pen.drawing w.position to t.modes.last_point)
-confined t (Draw (Fill o q)) = before t (Draw (Fill o q)) (picture_after t (Draw (Fill o q))) (confined_filled (area_of t) o q)
-confined t (Draw (Copy o f q)) = before t (Draw (Copy o f q)) (picture_after t (Draw (Copy o f q))) (confined_copied (area_of t) o f q)
-confined t (Draw (Begin l)) = confined_same (reach t (Draw (Begin l)))
-confined t (Draw (Paint o s)) = before t (Draw (Paint o s)) (picture_after t (Draw (Paint o s))) (confined_strip (area_of t) o s)
-confined t (Region r) = confined_same (reach t (Region r))
+    let area = t.window.area in
+    confined_more (inside area) (reach t (Draw (Line to))) (lined area t.window.pen.drawing t.window.position to t.modes.last_point)
+    (λ x y i. or_left (inside area x y) (inside area x y) i)
+    (confined_lined area t.window.pen.drawing t.window.position to t.modes.last_point)
 confined t (Gin g) = confined_same (reach t (Gin g))
 confined t (Key k) = confined_same (reach t (Key k))
 confined t (Aim p) = confined_same (reach t (Aim p))
@@ -80,9 +70,9 @@ counted_first v (e ∷ es) x y i = or_left (selected v x y) (counted (next v e) 
 
 -- one event, in any places that hold those counted from it on
 pub event_confined : (v : Seen) (e : Event) (es : List Event) (o : ℕ → ℕ → Bool) → Holds o (counted v (e ∷ es)) →
-    Confined o (picture_after (with_reading (reading v.terminal e) v.terminal) (reading v.terminal e).action)
+    Confined o (picture_after (with_parser (reading v.terminal e).parser v.terminal) (reading v.terminal e).action)
 event_confined v e es o h =
-    let t = with_reading (reading v.terminal e) v.terminal in
+    let t = with_parser (reading v.terminal e).parser v.terminal in
     let a = (reading v.terminal e).action in
     confined_more (reach t a) o (picture_after t a)
     (λ x y i. h x y
@@ -103,25 +93,25 @@ pub stay_alike : (o : ℕ → ℕ → Bool) (t : Terminal) (ks : List Stroke) (e
     Alike o (after (sight t p ks) es).picture (after (sight t q ks) es).picture
 stay_alike o t ks [] p q h a = a
 stay_alike o t ks (e ∷ es) p q h a =
-    let on = with_reading (reading t e) t in
+    let on = with_parser (reading t e).parser t in
     let does = (reading t e).action in
     stay_alike o (state_after on does) (strokes_after ks does) es (picture_after on does p) (picture_after on does q)
-    (λ x y i. h x y (or_right (inside (area_of t) x y) (counted (next (sight t p ks) e) es x y) i))
+    (λ x y i. h x y (or_right (inside t.window.area x y) (counted (next (sight t p ks) e) es x y) i))
     ((event_confined (sight t p ks) e es o h).reads p q a)
 
 -- terminal, strokes and replies are the same on any two pictures
 pub unseen_terminal : (t : Terminal) (ks : List Stroke) (es : List Event) (p q : Picture) → (after (sight t p ks) es).terminal ≡ (after (sight t q ks) es).terminal
 unseen_terminal t ks [] p q = refl
 unseen_terminal t ks (e ∷ es) p q =
-    unseen_terminal (state_after (with_reading (reading t e) t) (reading t e).action) (strokes_after ks (reading t e).action) es _ _
+    unseen_terminal (state_after (with_parser (reading t e).parser t) (reading t e).action) (strokes_after ks (reading t e).action) es _ _
 
 pub unseen_strokes : (t : Terminal) (ks : List Stroke) (es : List Event) (p q : Picture) → (after (sight t p ks) es).strokes ≡ (after (sight t q ks) es).strokes
 unseen_strokes t ks [] p q = refl
 unseen_strokes t ks (e ∷ es) p q =
-    unseen_strokes (state_after (with_reading (reading t e) t) (reading t e).action) (strokes_after ks (reading t e).action) es _ _
+    unseen_strokes (state_after (with_parser (reading t e).parser t) (reading t e).action) (strokes_after ks (reading t e).action) es _ _
 
 pub unseen_replies : (t : Terminal) (ks : List Stroke) (es : List Event) (p q : Picture) → replies (sight t p ks) es ≡ replies (sight t q ks) es
 unseen_replies t ks [] p q = refl
 unseen_replies t ks (e ∷ es) p q =
     ap (λ r. reply (sight t p ks) e ++ r)
-    (unseen_replies (state_after (with_reading (reading t e) t) (reading t e).action) (strokes_after ks (reading t e).action) es _ _)
+    (unseen_replies (state_after (with_parser (reading t e).parser t) (reading t e).action) (strokes_after ks (reading t e).action) es _ _)

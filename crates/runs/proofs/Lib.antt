@@ -1,4 +1,3 @@
-pub mod Areas
 pub mod Choice
 pub mod Tracks
 pub mod Confine

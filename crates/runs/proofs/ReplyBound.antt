@@ -8,13 +8,13 @@ use Rattle.keyboard.specs.declared.modes.KeyModes.{KeyModes}
 use Rattle.keyboard.specs.declared.stroke.Stroke.{Stroke}
 use Rattle.keyboard.specs.Codes.{key_codes, arrow_prefix, keypad_prefix, function_prefix, Short}
 use Rattle.keyboard.specs.Key.{arrow_letter, keypad_letter, function_letter}
-use Rattle.actions.specs.declared.action.Action.{Action}
-use Rattle.actions.specs.declared.action.Action.TheVariants.{Nothing, Control, Draw, Region, Gin, Key, Aim}
-use Rattle.actions.specs.declared.action.Control.TheVariants.{Lock, Unlock, Acknowledge, Report, Reset, LastPoint}
-use Rattle.actions.specs.declared.action.GinAction.{GinAction}
-use Rattle.actions.specs.declared.action.GinAction.TheVariants.{Enter, Begin, Lose, Leave}
-use Rattle.actions.specs.declared.action.KeyAction.{KeyAction}
-use Rattle.actions.specs.declared.action.KeyAction.TheVariants.{Hold}
+use Rattle.state.specs.declared.action.Action.{Action}
+use Rattle.state.specs.declared.action.Action.TheVariants.{Nothing, Control, Draw, Gin, Key, Aim}
+use Rattle.state.specs.declared.action.Control.TheVariants.{Lock, Unlock, Acknowledge, Report, Reset}
+use Rattle.state.specs.declared.action.GinAction.{GinAction}
+use Rattle.state.specs.declared.action.GinAction.TheVariants.{Enter, Begin, Lose, Leave}
+use Rattle.state.specs.declared.action.KeyAction.{KeyAction}
+use Rattle.state.specs.declared.action.KeyAction.TheVariants.{Hold}
 use Rattle.state.specs.declared.setup.Terminator.{Terminator}
 use Rattle.state.specs.declared.setup.Terminator.TheVariants.{Nothing as NoEnd, Cr, CrEot}
 use Rattle.state.specs.declared.terminal.Terminal.{Terminal}
@@ -66,9 +66,7 @@ reply_bound t ks (Control Unlock) = omega (arith, all_short t ks)
 reply_bound t ks (Control Acknowledge) = omega arith
 reply_bound t ks (Control Report) = omega (arith, ending_short t.setup.terminator)
 reply_bound t ks (Control Reset) = omega arith
-reply_bound t ks (Control (LastPoint on)) = omega arith
 reply_bound t ks (Draw d) = omega arith
-reply_bound t ks (Region r) = omega arith
 reply_bound t ks (Gin Enter) = omega arith
 reply_bound t ks (Gin Begin) = omega arith
 reply_bound t ks (Gin Lose) = omega arith

@@ -4,21 +4,19 @@ use Rattle.std.proofs.lemmas.Bool.{leb-true, eqb-true, and_parts}
 use Rattle.refusal.specs.declared.Refusal.{Refusal}
 use Rattle.refusal.specs.declared.Refusal.TheVariants.{PlaneSize, Capacity, Face, Strokes}
 use Rattle.refusal.specs.Number.{number_of}
-use Rattle.actions.specs.declared.action.Action.{Action}
-use Rattle.actions.specs.declared.action.Action.TheVariants.{Nothing, Control, Draw, Region, Gin, Key, Aim}
-use Rattle.actions.specs.declared.action.Control.TheVariants.{Lock, Unlock, Acknowledge, Report, Reset, LastPoint}
-use Rattle.actions.specs.declared.action.Drawing.TheVariants.{Move, Line, Fill, Copy, Paint}
-use Rattle.actions.specs.declared.action.Drawing.{Drawing}
-use Rattle.actions.specs.declared.action.RegionAction.TheVariants.{Define, Select, DrawBy, TextBy}
-use Rattle.actions.specs.declared.action.GinAction.{GinAction}
-use Rattle.actions.specs.declared.action.GinAction.TheVariants.{Enter, Begin, Lose, Leave}
-use Rattle.actions.specs.declared.action.KeyAction.{KeyAction}
-use Rattle.actions.specs.declared.action.KeyAction.TheVariants.{Hold}
+use Rattle.state.specs.declared.action.Action.{Action}
+use Rattle.state.specs.declared.action.Action.TheVariants.{Nothing, Control, Draw, Gin, Key, Aim}
+use Rattle.state.specs.declared.action.Control.TheVariants.{Lock, Unlock, Acknowledge, Report, Reset}
+use Rattle.state.specs.declared.action.Drawing.TheVariants.{Move, Line}
+use Rattle.state.specs.declared.action.GinAction.{GinAction}
+use Rattle.state.specs.declared.action.GinAction.TheVariants.{Enter, Begin, Lose, Leave}
+use Rattle.state.specs.declared.action.KeyAction.{KeyAction}
+use Rattle.state.specs.declared.action.KeyAction.TheVariants.{Hold}
 use Rattle.state.specs.declared.reading.Reading.{Reading}
 use Rattle.state.specs.declared.terminal.Terminal.{Terminal}
 use Rattle.state.specs.Event.{Event, Seen, reading, perform, next, after}
 use Rattle.state.specs.Step.{state_after}
-use Rattle.state.specs.Terminal.{with_reading}
+use Rattle.state.specs.Terminal.{with_parser}
 use Rattle.runs.specs.declared.delivery.Delivery.{Delivery}
 use Rattle.runs.specs.declared.delivery.Delivery.TheVariants.{Whole, Stopped}
 use Rattle.runs.specs.Calls.{Fed, Keyed, Pointed, first_of, fed_events, key_events, point_events, Call, feed, key, aim, drain}
@@ -37,17 +35,8 @@ setup_after t (Control Unlock) = refl
 setup_after t (Control Acknowledge) = refl
 setup_after t (Control Report) = refl
 setup_after t (Control Reset) = refl
-setup_after t (Control (LastPoint on)) = refl
 setup_after t (Draw (Move to)) = refl
 setup_after t (Draw (Line to)) = refl
-setup_after t (Draw (Fill o q)) = refl
-setup_after t (Draw (Copy o f q)) = refl
-setup_after t (Draw (Drawing.Begin l)) = refl
-setup_after t (Draw (Paint o s)) = refl
-setup_after t (Region (Define s q)) = refl
-setup_after t (Region (Select s)) = refl
-setup_after t (Region (DrawBy o)) = refl
-setup_after t (Region (TextBy o)) = refl
 setup_after t (Gin Enter) = refl
 setup_after t (Gin Begin) = refl
 setup_after t (Gin Lose) = refl
@@ -61,7 +50,7 @@ setup_after t (Aim p) = refl
 -- whether the plane has the terminal's size is the same before and after
 pub size_performed : (v : Seen) (r : Reading) → same_size (perform v r).terminal (perform v r).picture ≡ same_size v.terminal v.picture
 size_performed v r =
-    let t = with_reading r v.terminal in
+    let t = with_parser r.parser v.terminal in
     let a = setup_after t r.action in
     let b = (confined t r.action).wide v.picture in
     let c = (confined t r.action).high v.picture in
@@ -70,7 +59,7 @@ size_performed v r =
 -- and by any events
 pub setup_over : (v : Seen) (es : List Event) → (after v es).terminal.setup ≡ v.terminal.setup
 setup_over v [] = refl
-setup_over v (e ∷ es) = setup_over (next v e) es ∙ setup_after (with_reading (reading v.terminal e) v.terminal) (reading v.terminal e).action
+setup_over v (e ∷ es) = setup_over (next v e) es ∙ setup_after (with_parser (reading v.terminal e).parser v.terminal) (reading v.terminal e).action
 
 -- likewise over any events
 pub size_over : (v : Seen) (es : List Event) → same_size (after v es).terminal (after v es).picture ≡ same_size v.terminal v.picture

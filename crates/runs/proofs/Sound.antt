@@ -1,5 +1,5 @@
 -- What every call keeps: the line's law, and that no more strokes wait than there are places.
-use Rattle.std.proofs.Common.{◌≡◌, ℕ, ◌<◌, ◌≤◌, Bool, true, false, cond, not, ◌&&◌, ◌||◌, eqb, leb, List, length, ℤ, pos, negsuc, Some, None, Ok, Err, Option, Result, refl, ap, arith, length-append}
+use Rattle.std.proofs.Common.{◌≡◌, ℕ, ◌<◌, ◌≤◌, Bool, true, false, cond, not, ◌&&◌, ◌||◌, eqb, leb, List, length, Some, None, Ok, Err, Option, Result, refl, ap, arith, length-append}
 use Rattle.std.proofs.lemmas.Bool.{leb-false}
 use Rattle.keyboard.specs.declared.stroke.Stroke.{Stroke}
 use Rattle.keyboard.specs.Stroke.{numbered}
@@ -7,26 +7,19 @@ use Rattle.line.specs.Wire.{Lawful}
 use Rattle.parser.specs.declared.machine.Dispatch.{Dispatch}
 use Rattle.parser.specs.declared.machine.Dispatch.TheVariants.{Print, Execute, Intermediate, Address, Sequence}
 use Rattle.parser.specs.Machine.{parsed}
-use Rattle.parser.specs.declared.parameters.Introducer.{Introducer}
-use Rattle.parser.specs.declared.parameters.Introducer.TheVariants.{Bracket, Private, Colon}
-use Rattle.operation.specs.declared.Operation.{Operation}
-use Rattle.raster.specs.declared.region.Point.{Point}
-use Rattle.raster.specs.Region.{same}
-use Rattle.regions.specs.declared.slot.Slot.{Slot}
+use Rattle.parser.specs.Parameters.{is_colon}
 use Rattle.refusal.specs.declared.Refusal.{Refusal}
 use Rattle.refusal.specs.declared.Refusal.TheVariants.{Key as NoKey, QueueFull}
 use Rattle.refusal.specs.Number.{because}
-use Rattle.actions.specs.declared.action.Action.{Action}
-use Rattle.actions.specs.declared.load.Load.{Load}
+use Rattle.state.specs.declared.action.Action.{Action}
 use Rattle.state.specs.declared.reading.Reading.{Reading}
 use Rattle.state.specs.declared.setup.Setup.{Setup}
 use Rattle.state.specs.declared.terminal.Gin.{Gin as Input}
 use Rattle.state.specs.declared.terminal.Gin.TheVariants.{Off, On, AfterEscape}
 use Rattle.state.specs.declared.terminal.Terminal.{Terminal}
-use Rattle.actions.specs.Action.{called_for, sequence_action}
-use Rattle.actions.specs.Sequence.{nth, point_from, operation_of, slot_of, by, begun, with_slot, colon_action, lists, last_point}
+use Rattle.state.specs.Action.{called_for}
 use Rattle.state.specs.Event.{Event, byte, stroke, point, Seen, reading}
-use Rattle.state.specs.Reading.{read, by_gin, in_load, stroke_action}
+use Rattle.state.specs.Reading.{read, further, stroke_action}
 use Rattle.state.specs.Step.{strokes_after}
 use Rattle.runs.specs.declared.delivery.Delivery.{Delivery}
 use Rattle.runs.specs.declared.delivery.Delivery.TheVariants.{Whole, Stopped}
@@ -39,41 +32,6 @@ use Rattle.runs.proofs.Choice.{whichever, some_reason}
 abbrev Keeps : List Stroke → Action → Type 0
 Keeps ks a = length (strokes_after ks a) ≤ length ks
 
--- what is done by an operation, if there is one
-by_keeps : (ks : List Stroke) (o : Option Operation) (f : Operation → Action) → ((k : Operation) → Keeps ks (f k)) → Keeps ks (by o f)
-by_keeps ks (Some o) f h = h o
-by_keeps ks None f h = omega arith
-
-begun_keeps : (ks : List Stroke) (o : Operation) (c : Point) (w h : ℤ) → Keeps ks (begun o c w h)
-begun_keeps ks o c (pos w) (pos h) = whichever (Keeps ks) (leb 1 w && leb 1 h) (omega arith) (omega arith)
-begun_keeps ks o c (negsuc w) h = omega arith
-begun_keeps ks o c (pos w) (negsuc h) = omega arith
-
-slot_keeps : (ks : List Stroke) (vs : List ℤ) (s : Option Slot) → Keeps ks (with_slot vs s)
-slot_keeps ks vs (Some s) = whichever (Keeps ks) (same (nth vs 0) (pos 0)) (omega arith) (whichever (Keeps ks) (same (nth vs 0) (pos 1)) (omega arith) (omega arith))
-slot_keeps ks vs None = omega arith
-
-colon_keeps : (ks : List Stroke) (vs : List ℤ) (b : ℕ) → Keeps ks (colon_action vs b)
-colon_keeps ks vs b =
-    let K = Keeps ks in
-    let k = operation_of (nth vs 0) in
-    whichever K (eqb b 109) (omega arith)
-    (whichever K (eqb b 100) (omega arith)
-    (whichever K (eqb b 118) (by_keeps ks k _ (λ o. omega arith))
-    (whichever K (eqb b 116) (by_keeps ks k _ (λ o. omega arith))
-    (whichever K (eqb b 102) (by_keeps ks k _ (λ o. omega arith))
-    (whichever K (eqb b 114) (by_keeps ks k _ (λ o. omega arith))
-    (whichever K (eqb b 112) (by_keeps ks k _ (λ o. begun_keeps ks o (point_from vs 3 4) (nth vs 1) (nth vs 2)))
-    (whichever K (eqb b 67) (slot_keeps ks vs (slot_of (nth vs 1))) (omega arith))))))))
-
-mode_keeps : (ks : List Stroke) (vs : List ℤ) (on : Bool) → Keeps ks (last_point vs on)
-mode_keeps ks vs on = whichever (Keeps ks) (lists vs (pos 52)) (omega arith) (omega arith)
-
-sequence_keeps : (ks : List Stroke) (i : Introducer) (vs : List ℤ) (b : ℕ) → Keeps ks (sequence_action i vs b)
-sequence_keeps ks Colon vs b = colon_keeps ks vs b
-sequence_keeps ks Bracket vs b = whichever (Keeps ks) (eqb b 104) (mode_keeps ks vs true) (whichever (Keeps ks) (eqb b 108) (mode_keeps ks vs false) (omega arith))
-sequence_keeps ks Private vs b = omega arith
-
 -- whatever the parser dispatches
 dispatch_keeps : (ks : List Stroke) (d : Dispatch) → Keeps ks (called_for d)
 dispatch_keeps ks Dispatch.Nothing = omega arith
@@ -82,26 +40,20 @@ dispatch_keeps ks (Execute b) = whichever (Keeps ks) (eqb b 3) (omega arith) (om
 dispatch_keeps ks (Dispatch.Escape b) = whichever (Keeps ks) (eqb b 5) (omega arith) (whichever (Keeps ks) (eqb b 26) (omega arith) (whichever (Keeps ks) (eqb b 99) (omega arith) (omega arith)))
 dispatch_keeps ks (Intermediate f b) = omega arith
 dispatch_keeps ks (Address r c) = omega arith
-dispatch_keeps ks (Sequence i vs b) = sequence_keeps ks i vs b
-
--- a datum of a load too
-load_keeps : (ks : List Stroke) (o : Option Load) (t : Terminal) (b : ℕ) → Keeps ks (in_load o t b).action
-load_keeps ks (Some l) t b =
-    let P : Reading → Type 0 = λ r. Keeps ks r.action in
-    whichever P (leb 64 b && leb b 127) (omega arith) (dispatch_keeps ks (parsed t.emulation t.parser.state b).1)
-load_keeps ks None t b = dispatch_keeps ks (parsed t.emulation t.parser.state b).1
+dispatch_keeps ks (Sequence i vs b) =
+    whichever (Keeps ks) (is_colon i) (whichever (Keeps ks) (eqb b 109) (omega arith) (whichever (Keeps ks) (eqb b 100) (omega arith) (omega arith))) (omega arith)
 
 -- in graphics input too
-gin_keeps : (ks : List Stroke) (g : Input) (t : Terminal) (b : ℕ) → Keeps ks (by_gin g t b).action
-gin_keeps ks Off t b = load_keeps ks t.load t b
-gin_keeps ks On t b = omega arith
-gin_keeps ks AfterEscape t b = omega arith
+further_keeps : (ks : List Stroke) (g : Input) (t : Terminal) (b : ℕ) → Keeps ks (further g t b).action
+further_keeps ks Off t b = dispatch_keeps ks (parsed t.emulation t.parser.state b).1
+further_keeps ks On t b = omega arith
+further_keeps ks AfterEscape t b = omega arith
 
 -- after a byte no more strokes wait than before it
 pub byte_adds_none : (t : Terminal) (b : ℕ) (ks : List Stroke) → length (strokes_after ks (read t b).action) ≤ length ks
 byte_adds_none t b ks =
     let P : Reading → Type 0 = λ r. Keeps ks r.action in
-    whichever P (eqb b 0 || leb 128 b) (omega arith) (whichever P (eqb b 17) (omega arith) (whichever P (eqb b 19) (omega arith) (gin_keeps ks t.gin t b)))
+    whichever P (eqb b 0 || leb 128 b) (omega arith) (whichever P (eqb b 17) (omega arith) (whichever P (eqb b 19) (omega arith) (further_keeps ks t.gin t b)))
 
 -- a stroke that is not refused finds a place
 place_left : (o : Option Refusal) (high : Bool) (g : Input) (locked full : Bool) (k : Stroke) (ks : List Stroke) (places : ℕ) →

@@ -1,8 +1,8 @@
 -- What the loop of feed needs, turn by turn.
 use Rattle.std.proofs.Common.{◌≡◌, ℕ, ◌+◌, ◌<◌, true, List, [], ◌∷◌, ◌++◌, length, get_or, take, None, ap, ◌∙◌, add-one, arith, take-suc}
 use Rattle.keyboard.specs.declared.stroke.Stroke.{Stroke}
-use Rattle.actions.specs.declared.action.Action.TheVariants.{Key}
-use Rattle.actions.specs.declared.action.KeyAction.TheVariants.{Hold}
+use Rattle.state.specs.declared.action.Action.TheVariants.{Key}
+use Rattle.state.specs.declared.action.KeyAction.TheVariants.{Hold}
 use Rattle.state.specs.declared.terminal.Terminal.{Terminal}
 use Rattle.state.specs.Event.{byte, Seen, reading}
 use Rattle.state.specs.Reading.{read}

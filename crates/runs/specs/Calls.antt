@@ -9,7 +9,7 @@ use Rattle.refusal.specs.Number.{because}
 use Rattle.state.specs.declared.reading.Reading.{Reading}
 use Rattle.state.specs.declared.terminal.Gin.{Gin}
 use Rattle.state.specs.declared.terminal.Gin.TheVariants.{Off, On, AfterEscape}
-use Rattle.actions.specs.declared.place.Place.{Place}
+use Rattle.state.specs.declared.terminal.Place.{Place}
 use Rattle.state.specs.declared.terminal.Terminal.{Terminal}
 use Rattle.state.specs.Event.{Event, byte, stroke, point, reading, perform, reply}
 use Rattle.state.specs.Reply.{reply_of}

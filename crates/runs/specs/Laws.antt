@@ -6,7 +6,7 @@ use Rattle.refusal.specs.declared.Refusal.{Refusal}
 use Rattle.refusal.specs.Number.{number_of}
 use Rattle.state.specs.declared.setup.Setup.{Setup}
 use Rattle.state.specs.Event.{Event, byte, Seen, sight, next, after, replies}
-use Rattle.state.specs.Terminal.{area_of, new, made}
+use Rattle.state.specs.Terminal.{new, made}
 use Rattle.runs.specs.declared.delivery.Delivery.{Delivery}
 use Rattle.runs.specs.Calls.{Fed}
 use Rattle.runs.specs.Delivery.{taken_of}
@@ -77,7 +77,7 @@ Recall =
 
 -- the places of the region that is selected
 abbrev pub selected : Seen → ℕ → ℕ → Bool
-selected v = inside (area_of v.terminal)
+selected v = inside v.terminal.window.area
 
 -- the places that a stretch counts: those in the region selected at its start or after one of its events
 abbrev pub counted : Seen → List Event → ℕ → ℕ → Bool

@@ -1,6 +1,5 @@
 pub mod Calls
 pub mod Delivery
-pub mod Inside
 pub mod Laws
 pub mod Run
 pub mod Set

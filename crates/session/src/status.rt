@@ -2,14 +2,11 @@
 use crate::fault::Fault;
 use crate::hexadecimal::digits_of;
 use crate::peek::Peek;
-use actions::place::Place;
 use keyboard::stroke::Stroke;
 use queue::Queue;
 use raster::region::Region;
-use regions::regions::Regions;
-use regions::slot::Slot;
-use regions::window::Window;
-use state::terminal::{Gin, Terminal};
+use state::terminal::{Gin, Place, Terminal};
+use state::window::Window;
 
 const REGIONS: u8 = 8;
 
@@ -19,17 +16,13 @@ fn print_part(rt: &HostRuntime, value: i32, mark: &str) -> Result<(), Fault> {
     Ok(())
 }
 
-fn print_word(rt: &HostRuntime, name: &str, value: i32) -> Result<(), Fault> {
+fn print_word(rt: &HostRuntime, name: &str, value: u8) -> Result<(), Fault> {
     print!(rt; "{name}={value} ")?;
     Ok(())
 }
 
-fn bit(on: bool) -> i32 {
-    if on { 1 } else { 0 }
-}
-
 fn print_flag(rt: &HostRuntime, name: &str, on: bool) -> Result<(), Fault> {
-    print_word(rt, name, bit(on))
+    print_word(rt, name, if on { 1 } else { 0 })
 }
 
 fn print_place(rt: &HostRuntime, name: &str, x: i32, y: i32) -> Result<(), Fault> {
@@ -41,17 +34,14 @@ fn print_pointer(rt: &HostRuntime, at: Place) -> Result<(), Fault> {
     print_place(rt, "pointer", at.x as i32, at.y as i32)
 }
 
-// Right column and wrap are still those of a new terminal.
-fn print_selected(rt: &HostRuntime, regions: &Regions) -> Result<(), Fault> {
-    let window = regions.current();
+// Held, text operation, reverse, right column and wrap are still those of a new terminal.
+fn print_selected(rt: &HostRuntime, window: Window) -> Result<(), Fault> {
     let at = window.position;
-    print_word(rt, "sel", regions.selected.number as i32)?;
+    print_word(rt, "sel", window.number)?;
     print_place(rt, "pos", at.x as i32, at.y as i32)?;
-    print_flag(rt, "held", window.held)?;
-    print_word(rt, "draw", window.pen.drawing.number() as i32)?;
-    print_word(rt, "text", window.pen.text.number() as i32)?;
-    print_flag(rt, "rev", window.pen.reversed)?;
-    rt.print("right=0 wrap=1 ")?;
+    print_flag(rt, "held", false)?;
+    print_word(rt, "draw", window.pen.drawing.number())?;
+    rt.print("text=3 rev=0 right=0 wrap=1 ")?;
     Ok(())
 }
 
@@ -80,19 +70,20 @@ fn print_area(rt: &HostRuntime, area: Region) -> Result<(), Fault> {
 fn print_region(rt: &HostRuntime, number: u8, window: Window) -> Result<(), Fault> {
     let at = window.position;
     print!(rt; "r{number}=")?;
-    print_area(rt, window.area.region)?;
+    print_area(rt, window.area)?;
     print_part(rt, at.x as i32, ",")?;
-    print_part(rt, at.y as i32, ":")?;
-    print_part(rt, bit(window.held), ":")?;
-    print_part(rt, window.pen.drawing.number() as i32, ",")?;
-    print_part(rt, window.pen.text.number() as i32, ",")?;
-    print_part(rt, bit(window.pen.reversed), " ")
+    print_part(rt, at.y as i32, ":0:")?;
+    print_part(rt, window.pen.drawing.number() as i32, ",3,0 ")
 }
 
-fn print_regions(rt: &HostRuntime, regions: &Regions) -> Result<(), Fault> {
+// All regions but the selected one are still those of a new terminal.
+fn print_regions(rt: &HostRuntime, terminal: &Terminal) -> Result<(), Fault> {
+    let other = Terminal::new(terminal.setup).window;
     for number in 0..REGIONS {
-        if let Some(slot) = Slot::new(number) {
-            print_region(rt, number, regions.window(slot))?;
+        if number == terminal.window.number {
+            print_region(rt, number, terminal.window)?;
+        } else {
+            print_region(rt, number, other)?;
         }
     }
     Ok(())
@@ -116,10 +107,10 @@ pub(crate) fn print_state<L: Peek>(
     line: &L,
     strokes: &Queue<'_, Stroke>,
 ) -> Result<(), Fault> {
-    print_word(rt, "emu", terminal.emulation.number() as i32)?;
-    print_selected(rt, &terminal.regions)?;
+    print_word(rt, "emu", terminal.emulation.number())?;
+    print_selected(rt, terminal.window)?;
     print_modes(rt, terminal)?;
-    print_regions(rt, &terminal.regions)?;
+    print_regions(rt, terminal)?;
     print_strokes(rt, strokes)?;
     let waiting = digits_of(rt.alloc(), &line.waiting(rt.alloc())?)?;
     println!(rt; " waiting={waiting} room={}", line.room())?;

@@ -2,14 +2,14 @@
 use Rattle.std.specs.Prelude.{ℕ, List, [], ◌∷◌, ◌++◌}
 use Rattle.keyboard.specs.declared.stroke.Stroke.{Stroke}
 use Rattle.plane.specs.Picture.{Picture}
-use Rattle.actions.specs.declared.action.Action.TheVariants.{Aim}
+use Rattle.state.specs.declared.action.Action.TheVariants.{Aim}
 use Rattle.state.specs.declared.reading.Reading.{Reading}
-use Rattle.actions.specs.declared.place.Place.{Place}
+use Rattle.state.specs.declared.terminal.Place.{Place}
 use Rattle.state.specs.declared.terminal.Terminal.{Terminal}
-use Rattle.state.specs.Reading.{read, struck, passing}
+use Rattle.state.specs.Reading.{read, struck}
 use Rattle.state.specs.Reply.{reply_of}
 use Rattle.state.specs.Step.{state_after, picture_after, strokes_after}
-use Rattle.state.specs.Terminal.{with_reading}
+use Rattle.state.specs.Terminal.{with_parser}
 
 -- a host byte that is taken, a stroke, a place of the pointer
 pub data Event : Type 0 where
@@ -29,12 +29,12 @@ sight t p ks = record { terminal = t; picture = p; strokes = ks }
 abbrev pub reading : Terminal → Event → Reading
 reading t (byte b) = read t b
 reading t (stroke k) = struck t k
-reading t (point p) = passing t (Aim p)
+reading t (point p) = record { parser = t.parser; action = Aim p }
 
--- what was read is done: the parser and the load go on, and the action works
+-- what was read is done: the parser goes on, and the action works
 abbrev pub perform : Seen → Reading → Seen
 perform v r =
-    let t : Terminal = with_reading r v.terminal in
+    let t : Terminal = with_parser r.parser v.terminal in
     sight (state_after t r.action) (picture_after t r.action v.picture) (strokes_after v.strokes r.action)
 
 abbrev pub next : Seen → Event → Seen

@@ -1,4 +1,4 @@
-pub mod Cases
+pub mod Action
 pub mod Event
 pub mod Reading
 pub mod Reply

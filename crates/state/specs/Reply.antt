@@ -2,14 +2,13 @@
 use Rattle.std.specs.Prelude.{ℕ, ◌+◌, ◌/◌, ◌%◌, min, List, [], ◌∷◌, ◌++◌, ℤ, pos, negsuc}
 use Rattle.keyboard.specs.declared.stroke.Stroke.{Stroke}
 use Rattle.keyboard.specs.Codes.{codes_of}
-use Rattle.regions.specs.Regions.{chosen}
-use Rattle.actions.specs.declared.action.Action.{Action}
-use Rattle.actions.specs.declared.action.Action.TheVariants.{Nothing, Control, Draw, Region, Gin, Key, Aim}
-use Rattle.actions.specs.declared.action.Control.TheVariants.{Lock, Unlock, Acknowledge, Report, Reset, LastPoint}
-use Rattle.actions.specs.declared.action.GinAction.{GinAction}
-use Rattle.actions.specs.declared.action.GinAction.TheVariants.{Enter, Begin, Lose, Leave}
-use Rattle.actions.specs.declared.action.KeyAction.{KeyAction}
-use Rattle.actions.specs.declared.action.KeyAction.TheVariants.{Hold}
+use Rattle.state.specs.declared.action.Action.{Action}
+use Rattle.state.specs.declared.action.Action.TheVariants.{Nothing, Control, Draw, Gin, Key, Aim}
+use Rattle.state.specs.declared.action.Control.TheVariants.{Lock, Unlock, Acknowledge, Report, Reset}
+use Rattle.state.specs.declared.action.GinAction.{GinAction}
+use Rattle.state.specs.declared.action.GinAction.TheVariants.{Enter, Begin, Lose, Leave}
+use Rattle.state.specs.declared.action.KeyAction.{KeyAction}
+use Rattle.state.specs.declared.action.KeyAction.TheVariants.{Hold}
 use Rattle.state.specs.declared.setup.Terminator.{Terminator}
 use Rattle.state.specs.declared.setup.Terminator.TheVariants.{Nothing as NoEnd, Cr, CrEot}
 use Rattle.state.specs.declared.terminal.Terminal.{Terminal}
@@ -30,7 +29,7 @@ ending CrEot = 13 ∷ 4 ∷ []
 
 -- the position's report: 33 and 4, since no graph mode is on
 abbrev pub position_report : Terminal → List ℕ
-position_report t = 37 ∷ (coordinates (cut (chosen t.regions).position.x) (cut (chosen t.regions).position.y) ++ ending t.setup.terminator)
+position_report t = 37 ∷ (coordinates (cut t.window.position.x) (cut t.window.position.y) ++ ending t.setup.terminator)
 
 -- the pointer's, without status
 abbrev pub pointer_report : Terminal → List ℕ
@@ -48,9 +47,7 @@ reply_of t ks (Control Unlock) = all_codes t ks
 reply_of t ks (Control Acknowledge) = 6 ∷ []
 reply_of t ks (Control Report) = position_report t
 reply_of t ks (Control Reset) = []
-reply_of t ks (Control (LastPoint on)) = []
 reply_of t ks (Draw d) = []
-reply_of t ks (Region r) = []
 reply_of t ks (Gin Enter) = []
 reply_of t ks (Gin Begin) = []
 reply_of t ks (Gin Lose) = []

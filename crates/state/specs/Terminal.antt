@@ -1,36 +1,37 @@
 -- A new terminal, and a terminal with one part changed.
-use Rattle.std.specs.Prelude.{Bool, true, false, None, Option}
+use Rattle.std.specs.Prelude.{ℕ, ◌-◌, min, Bool, true, false, pos}
 use Rattle.parser.specs.declared.emulation.Emulation.TheVariants.{Native}
+use Rattle.parser.specs.declared.machine.Parser.{Parser}
 use Rattle.parser.specs.declared.machine.State.TheVariants.{Ground}
+use Rattle.raster.specs.declared.operation.Operation.TheVariants.{Copy}
+use Rattle.raster.specs.declared.region.Point.{Point}
 use Rattle.raster.specs.declared.region.Region.{Region}
-use Rattle.regions.specs.declared.regions.Regions.{Regions}
-use Rattle.regions.specs.Regions.{new as new_regions, chosen}
-use Rattle.actions.specs.declared.load.Load.{Load}
-use Rattle.state.specs.declared.reading.Reading.{Reading}
 use Rattle.state.specs.declared.setup.Setup.{Setup}
 use Rattle.state.specs.declared.terminal.Gin.{Gin}
 use Rattle.state.specs.declared.terminal.Gin.TheVariants.{Off}
-use Rattle.state.specs.declared.terminal.Modes.{Modes}
-use Rattle.actions.specs.declared.place.Place.{Place}
+use Rattle.state.specs.declared.terminal.Place.{Place}
 use Rattle.state.specs.declared.terminal.Terminal.{Terminal}
 
--- the region that drawing keeps to
-abbrev pub area_of : Terminal → Region
-area_of t = (chosen t.regions).area.region
+-- the home position of a region of this height, (0, height - 16); the cut at 32,767 is above every height that is installed
+abbrev pub home : ℕ → Point
+home h = record { x = pos 0; y = pos (min 32767 (h - 16)) }
 
--- a new terminal with this lock and pointer: native, every region the whole plane and region 0 selected; last point set, other
--- modes off; no graphics input, no sequence and no load begun
+-- the whole plane
+abbrev pub whole : Setup → Region
+whole s = record { left = 0; bottom = 0; width = s.size.width; height = s.size.height }
+
+-- a new terminal with this lock and pointer: native, the whole plane as region 0, operation 3, at home; last point set,
+-- other modes off; no graphics input, and no sequence begun
 abbrev pub made : Setup → Bool → Place → Terminal
 made s l p = record {
   setup = s;
   emulation = Native;
   modes = record { last_point = true; keys = record { cursor_keys = false; keypad_application = false } };
-  regions = new_regions s.size;
+  window = record { number = 0; area = whole s; position = home s.size.height; pen = record { drawing = Copy } };
   locked = l;
   pointer = p;
   gin = Off;
   parser = record { state = Ground };
-  load = None;
 }
 
 -- unlocked, with the pointer at (0, 0)
@@ -41,27 +42,17 @@ new s = made s false (record { x = 0; y = 0 })
 abbrev pub renewed : Terminal → Terminal
 renewed t = made t.setup t.locked t.pointer
 
-abbrev pub with_modes : Modes → Terminal → Terminal
-with_modes v t = record { setup = t.setup; emulation = t.emulation; modes = v; regions = t.regions; locked = t.locked; pointer = t.pointer; gin = t.gin; parser = t.parser; load = t.load }
-
-abbrev pub with_regions : Regions → Terminal → Terminal
-with_regions v t = record { setup = t.setup; emulation = t.emulation; modes = t.modes; regions = v; locked = t.locked; pointer = t.pointer; gin = t.gin; parser = t.parser; load = t.load }
+abbrev pub with_position : Point → Terminal → Terminal
+with_position p t = record { setup = t.setup; emulation = t.emulation; modes = t.modes; window = record { number = t.window.number; area = t.window.area; position = p; pen = t.window.pen }; locked = t.locked; pointer = t.pointer; gin = t.gin; parser = t.parser }
 
 abbrev pub with_locked : Bool → Terminal → Terminal
-with_locked v t = record { setup = t.setup; emulation = t.emulation; modes = t.modes; regions = t.regions; locked = v; pointer = t.pointer; gin = t.gin; parser = t.parser; load = t.load }
+with_locked v t = record { setup = t.setup; emulation = t.emulation; modes = t.modes; window = t.window; locked = v; pointer = t.pointer; gin = t.gin; parser = t.parser }
 
 abbrev pub with_pointer : Place → Terminal → Terminal
-with_pointer v t = record { setup = t.setup; emulation = t.emulation; modes = t.modes; regions = t.regions; locked = t.locked; pointer = v; gin = t.gin; parser = t.parser; load = t.load }
+with_pointer v t = record { setup = t.setup; emulation = t.emulation; modes = t.modes; window = t.window; locked = t.locked; pointer = v; gin = t.gin; parser = t.parser }
 
 abbrev pub with_gin : Gin → Terminal → Terminal
-with_gin v t = record { setup = t.setup; emulation = t.emulation; modes = t.modes; regions = t.regions; locked = t.locked; pointer = t.pointer; gin = v; parser = t.parser; load = t.load }
+with_gin v t = record { setup = t.setup; emulation = t.emulation; modes = t.modes; window = t.window; locked = t.locked; pointer = t.pointer; gin = v; parser = t.parser }
 
-abbrev pub with_load : Option Load → Terminal → Terminal
-with_load v t = record { setup = t.setup; emulation = t.emulation; modes = t.modes; regions = t.regions; locked = t.locked; pointer = t.pointer; gin = t.gin; parser = t.parser; load = v }
-
--- as the bytes were read: the parser and the load have gone on
-abbrev pub with_reading : Reading → Terminal → Terminal
-with_reading r t = record { setup = t.setup; emulation = t.emulation; modes = t.modes; regions = t.regions; locked = t.locked; pointer = t.pointer; gin = t.gin; parser = r.parser; load = r.load }
-
-abbrev pub with_last_point : Bool → Terminal → Terminal
-with_last_point on t = with_modes (record { last_point = on; keys = t.modes.keys }) t
+abbrev pub with_parser : Parser → Terminal → Terminal
+with_parser v t = record { setup = t.setup; emulation = t.emulation; modes = t.modes; window = t.window; locked = t.locked; pointer = t.pointer; gin = t.gin; parser = v }

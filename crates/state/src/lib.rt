@@ -1,6 +1,8 @@
 //! What a terminal is, and what each host byte does to it and to its picture.
+pub mod action;
 pub mod reading;
 pub mod setup;
 pub mod size;
 pub mod step;
 pub mod terminal;
+pub mod window;

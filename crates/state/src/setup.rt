@@ -2,8 +2,6 @@
 ghost use Rattle.std.specs.Prelude.{◌≡◌};
 ghost use Rattle.state.specs.Setup.{numbered};
 
-use regions::size::Size;
-
 /// What ends a report.
 #[derive(Clone, Copy, PartialEq, Eq, Debug)]
 pub enum Terminator {
@@ -26,8 +24,14 @@ impl Terminator {
     }
 }
 
-/// The size of the plane that the terminal draws on, and its terminator.
-#[derive(Clone, Copy)]
+/// The size of the plane that the terminal draws on.
+#[derive(Clone, Copy, PartialEq, Eq, Debug)]
+pub struct Size {
+    pub width: u16,
+    pub height: u16,
+}
+
+#[derive(Clone, Copy, PartialEq, Eq, Debug)]
 pub struct Setup {
     pub size: Size,
     pub terminator: Terminator,

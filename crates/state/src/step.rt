@@ -2,15 +2,12 @@
 ghost use Rattle.std.specs.Prelude.{◌≡◌};
 ghost use Rattle.state.specs.Step.{state_after, picture_after};
 
+use crate::action::{Action, Control, Drawing, GinAction};
 use crate::terminal::{Gin, Terminal};
-use actions::action::{Action, Control, Drawing, GinAction, RegionAction};
+use crate::window::Window;
 use plane::Plane;
-use raster::copy::copy;
-use raster::fill::fill;
+use raster::clear::clear;
 use raster::line::line;
-use raster::strip::paint;
-use regions::area::Area;
-use regions::window::Window;
 
 impl Terminal {
     fn control<P: Plane>(&mut self, plane: &mut P, control: Control)
@@ -23,57 +20,25 @@ impl Terminal {
             Control::Acknowledge | Control::Report => {}
             Control::Reset => {
                 self.renew();
-                self.regions.erase(plane);
+                clear(plane, self.window.area);
             }
-            Control::LastPoint { on } => self.modes.last_point = on,
         }
     }
 
-    // Draws in the selected region, or moves its position.
+    // Draws, or moves: the position is then where the drawing went.
     fn draw<P: Plane>(&mut self, plane: &mut P, drawing: Drawing)
         ensures state { self.new ≡ state_after self.old (Action.Draw drawing) }
         ensures picture { picture plane.new ≡ picture_after self.old (Action.Draw drawing) (picture plane.old) }
     {
-        let Window {
-            area,
-            position,
-            pen,
-            ..
-        } = self.regions.current();
         match drawing {
-            Drawing::Move { to } => self.regions.move_to(to),
+            Drawing::Move { to } => self.window.position = to,
             Drawing::Line { to } => {
+                let Window { area, pen, .. } = self.window;
+                let from = self.window.position;
                 let last = self.modes.last_point;
-                line(plane, area.region, pen.drawing, position, to, last);
-                self.regions.move_to(to);
+                line(plane, area, pen.drawing, from, to, last);
+                self.window.position = to;
             }
-            Drawing::Fill {
-                operation,
-                rectangle,
-            } => fill(plane, area.region, operation, rectangle),
-            Drawing::Copy {
-                operation,
-                from,
-                to,
-            } => copy(plane, area.region, operation, from, to),
-            Drawing::Begin { load } => self.load = Some(load),
-            Drawing::Paint { operation, strip } => paint(plane, area.region, operation, strip),
-        }
-    }
-
-    // Changes, defines or selects a region.
-    fn arrange(&mut self, action: RegionAction)
-        ensures { self.new ≡ state_after self.old (Action.Region action) }
-    {
-        match action {
-            RegionAction::Define { slot, rectangle } => {
-                if let Some(area) = Area::new(self.setup.size, rectangle) {
-                    self.regions.define(slot, area);
-                }
-            }
-            RegionAction::Select { slot } => self.regions.select(slot),
-            RegionAction::DrawBy { operation } => self.regions.draw_by(operation),
-            RegionAction::TextBy { operation } => self.regions.text_by(operation),
         }
     }
 
@@ -96,7 +61,6 @@ impl Terminal {
             Action::Nothing | Action::Key { .. } => {}
             Action::Control { control } => self.control(plane, control),
             Action::Draw { drawing } => self.draw(plane, drawing),
-            Action::Region { region } => self.arrange(region),
             Action::Gin { gin } => self.graphics_input(gin),
             Action::Aim { at } => self.pointer = at,
         }

@@ -1,15 +1,14 @@
 //! The state of a terminal.
 ghost use Rattle.std.specs.Prelude.{◌≡◌};
-ghost use Rattle.state.specs.Terminal.{new as fresh, renewed, with_reading};
+ghost use Rattle.state.specs.Terminal.{new as fresh, renewed, home as Home_of};
 
-use crate::reading::Reading;
 use crate::setup::Setup;
-use actions::load::Load;
-use actions::place::Place;
+use crate::window::{Pen, Window};
 use keyboard::modes::KeyModes;
 use parser::emulation::Emulation;
 use parser::machine::Parser;
-use regions::regions::Regions;
+use raster::operation::Operation;
+use raster::region::{Point, Region};
 
 /// The modes that sequences set and reset.
 #[derive(Clone, Copy)]
@@ -17,6 +16,13 @@ pub struct Modes {
     /// Whether a line's last point is drawn.
     pub last_point: bool,
     pub keys: KeyModes,
+}
+
+/// A place of the plane, counted from its lower left.
+#[derive(Clone, Copy)]
+pub struct Place {
+    pub x: u16,
+    pub y: u16,
 }
 
 /// Graphics input: the host has asked for the pointer's place, and perhaps begun a sequence.
@@ -32,14 +38,22 @@ pub struct Terminal {
     pub setup: Setup,
     pub emulation: Emulation,
     pub modes: Modes,
-    pub regions: Regions,
+    pub window: Window,
     /// Whether strokes wait for the host.
     pub locked: bool,
     pub pointer: Place,
     pub gin: Gin,
     pub parser: Parser,
-    /// The pixel load that is under way.
-    pub load: Option<Load>,
+}
+
+// The home position: the cell at the top left of a region. No height is cut, since heights end at 1,024.
+fn home(height: u16) -> Point
+    ensures { result ≡ Home_of height }
+{
+    Point {
+        x: 0,
+        y: height.saturating_sub(16).min(32767) as i16,
+    }
 }
 
 impl Terminal {
@@ -47,6 +61,17 @@ impl Terminal {
     pub fn new(setup: Setup) -> Terminal
         ensures { result ≡ fresh setup }
     {
+        let Setup { size, .. } = setup;
+        let area = Region {
+            left: 0,
+            bottom: 0,
+            width: size.width,
+            height: size.height,
+        };
+        let position = home(size.height);
+        let pen = Pen {
+            drawing: Operation::Copy,
+        };
         Terminal {
             setup,
             emulation: Emulation::Native,
@@ -57,12 +82,16 @@ impl Terminal {
                     keypad_application: false,
                 },
             },
-            regions: Regions::new(setup.size),
+            window: Window {
+                number: 0,
+                area,
+                position,
+                pen,
+            },
             locked: false,
             pointer: Place { x: 0, y: 0 },
             gin: Gin::Off,
             parser: Parser::new(),
-            load: None,
         }
     }
 
@@ -75,13 +104,5 @@ impl Terminal {
         *self = Terminal::new(self.setup);
         self.locked = locked;
         self.pointer = pointer;
-    }
-
-    /// Goes on in what the bytes are the midst of, as they were read.
-    pub fn go_on(&mut self, reading: Reading)
-        ensures { self.new ≡ with_reading reading self.old }
-    {
-        self.parser = reading.parser;
-        self.load = reading.load;
     }
 }

@@ -3,10 +3,10 @@ use Rattle.std.proofs.Common.{◌≡◌, ℕ, ◌<◌, List, refl}
 use Rattle.keyboard.specs.declared.stroke.Stroke.{Stroke}
 use Rattle.runs.specs.Calls.{Does}
 use Rattle.runs.specs.Set.{Set, set_of}
-use Rattle.actions.specs.declared.action.Action.{Action}
-use Rattle.actions.specs.declared.action.Action.TheVariants.{Nothing, Control, Draw, Region, Gin, Key, Aim}
-use Rattle.actions.specs.declared.action.KeyAction.{KeyAction}
-use Rattle.actions.specs.declared.action.KeyAction.TheVariants.{Hold}
+use Rattle.state.specs.declared.action.Action.{Action}
+use Rattle.state.specs.declared.action.Action.TheVariants.{Nothing, Control, Draw, Gin, Key, Aim}
+use Rattle.state.specs.declared.action.KeyAction.{KeyAction}
+use Rattle.state.specs.declared.action.KeyAction.TheVariants.{Hold}
 use Rattle.state.specs.declared.reading.Reading.{Reading}
 use Rattle.terminal.specs.Work.{Holds}
 
@@ -15,7 +15,6 @@ pub needs_no_place : (a : Action) (n places : ℕ) → ((k : Stroke) → a ≡ K
 needs_no_place Nothing n places no-hold = tt
 needs_no_place (Control c) n places no-hold = tt
 needs_no_place (Draw d) n places no-hold = tt
-needs_no_place (Region r) n places no-hold = tt
 needs_no_place (Gin g) n places no-hold = tt
 needs_no_place (Key (Hold k)) n places no-hold = absurd (no-hold k refl)
 needs_no_place (Key (KeyAction.Send k)) n places no-hold = tt
@@ -26,7 +25,6 @@ pub has_place : (a : Action) (n places : ℕ) → n < places → Holds a n place
 has_place Nothing n places free = tt
 has_place (Control c) n places free = tt
 has_place (Draw d) n places free = tt
-has_place (Region r) n places free = tt
 has_place (Gin g) n places free = tt
 has_place (Key (Hold k)) n places free = free
 has_place (Key (KeyAction.Send k)) n places free = tt

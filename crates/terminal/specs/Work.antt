@@ -2,10 +2,10 @@
 use Rattle.std.specs.Prelude.{◌≡◌, ℕ, ◌<◌, length, Ok, Err, Result}
 use Rattle.runs.specs.Calls.{Does}
 use Rattle.runs.specs.Set.{Set}
-use Rattle.actions.specs.declared.action.Action.{Action}
-use Rattle.actions.specs.declared.action.Action.TheVariants.{Nothing, Control, Draw, Region, Gin, Key, Aim}
-use Rattle.actions.specs.declared.action.KeyAction.{KeyAction}
-use Rattle.actions.specs.declared.action.KeyAction.TheVariants.{Hold}
+use Rattle.state.specs.declared.action.Action.{Action}
+use Rattle.state.specs.declared.action.Action.TheVariants.{Nothing, Control, Draw, Gin, Key, Aim}
+use Rattle.state.specs.declared.action.KeyAction.{KeyAction}
+use Rattle.state.specs.declared.action.KeyAction.TheVariants.{Hold}
 use Rattle.state.specs.declared.reading.Reading.{Reading}
 use Rattle.state.specs.Reply.{reply_of}
 use Rattle.terminal.specs.declared.work.Shortage.{Shortage}
@@ -15,7 +15,6 @@ abbrev pub Holds : Action → ℕ → ℕ → Type 0
 Holds Nothing n places = Unit {0}
 Holds (Control c) n places = Unit {0}
 Holds (Draw d) n places = Unit {0}
-Holds (Region r) n places = Unit {0}
 Holds (Gin g) n places = Unit {0}
 Holds (Key (Hold k)) n places = n < places
 Holds (Key (KeyAction.Send k)) n places = Unit {0}

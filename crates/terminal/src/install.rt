@@ -1,13 +1,11 @@
 //! Installing a terminal.
 ghost use Rattle.std.specs.Prelude.{◌≡◌};
 ghost use Rattle.runs.specs.Laws.{Agree, Cut, Recall, Spared};
-ghost use Rattle.runs.specs.Inside.{Inside};
-ghost use Rattle.state.specs.Cases.{Worked};
 ghost use Rattle.terminal.specs.Install.{installed};
 
+use plane::memory::check_size;
 use refusal::Refusal;
-use regions::size::Size;
-use state::setup::{Setup, Terminator};
+use state::setup::{Setup, Size, Terminator};
 use state::terminal::Terminal;
 
 /// A new terminal for planes of this size. Terminators are 0 (nothing), 1 (CR) and 2 (CR EOT).
@@ -18,12 +16,16 @@ pub fn install(width: usize, height: usize, terminator: u8) -> Result<Terminal, 
     ensures cut { Cut }
     ensures recall { Recall }
     ensures spared { Spared }
-    ensures inside { Inside }
-    ensures worked { Worked }
 {
-    let size = Size::new(width, height)?;
+    check_size(width, height)?;
     match Terminator::from_number(terminator) {
-        Some(terminator) => Ok(Terminal::new(Setup { size, terminator })),
+        Some(terminator) => {
+            let size = Size {
+                width: width as u16,
+                height: height as u16,
+            };
+            Ok(Terminal::new(Setup { size, terminator }))
+        }
         None => Err(Refusal::Terminator),
     }
 }

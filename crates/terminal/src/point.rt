@@ -5,14 +5,13 @@ ghost use Rattle.runs.specs.Calls.{Pointed};
 ghost use Rattle.runs.specs.Set.{set_of};
 
 use crate::refusals::refusal_of;
-use actions::place::Place;
 use keyboard::stroke::Stroke;
 use line::Line;
 use plane::Plane;
 use queue::Queue;
 use refusal::Refusal;
-use regions::size::Size;
-use state::terminal::Terminal;
+use state::setup::Size;
+use state::terminal::{Place, Terminal};
 
 /// Sets the pointer to a place of the plane. That needs no room, since it replies nothing.
 pub fn point<P: Plane, L: Line>(

@@ -5,9 +5,9 @@ ghost use Rattle.keyboard.specs.Codes.{codes_of};
 ghost use Rattle.state.specs.Reply.{cut as cut_off, coordinates, ending, position_report, pointer_report, all_codes, reply_of};
 ghost use Rattle.terminal.specs.Reply.{content};
 
-use actions::action::{Action, Control, GinAction, KeyAction};
 use keyboard::stroke::Stroke;
 use queue::Queue;
+use state::action::{Action, Control, GinAction, KeyAction};
 use state::setup::Terminator;
 use state::terminal::Terminal;
 
@@ -92,7 +92,7 @@ impl Reply {
         ensures content { content self.new ≡ content self.old ++ position_report terminal.now }
         ensures length { self.new.length ≤ self.old.length + 7 }
     {
-        let at = terminal.regions.current().position;
+        let at = terminal.window.position;
         self.append(&[37]);
         self.coordinates(cut(at.x), cut(at.y));
         self.end(terminal.setup.terminator);
@@ -131,7 +131,7 @@ impl Reply {
     {
         let mut reply = Reply::new();
         match control {
-            Control::Lock | Control::Reset | Control::LastPoint { .. } => {}
+            Control::Lock | Control::Reset => {}
             Control::Unlock => reply.strokes(terminal, strokes),
             Control::Acknowledge => reply.append(&[6]),
             Control::Report => reply.position(terminal),
@@ -174,9 +174,7 @@ impl Reply {
         ensures length { result.length ≤ 64 }
     {
         match action {
-            Action::Nothing | Action::Draw { .. } | Action::Region { .. } | Action::Aim { .. } => {
-                Reply::new()
-            }
+            Action::Nothing | Action::Draw { .. } | Action::Aim { .. } => Reply::new(),
             Action::Control { control } => Reply::control(terminal, strokes, control),
             Action::Gin { gin } => Reply::graphics_input(terminal, gin),
             Action::Key { key } => Reply::key(terminal, key),

@@ -6,11 +6,11 @@ ghost use Rattle.runs.specs.Set.{set_of};
 ghost use Rattle.terminal.specs.Work.{Worked, Holds};
 
 use crate::reply::Reply;
-use actions::action::{Action, Control, KeyAction};
 use keyboard::stroke::Stroke;
 use line::Line;
 use plane::Plane;
 use queue::Queue;
+use state::action::{Action, Control, KeyAction};
 use state::reading::Reading;
 use state::terminal::Terminal;
 
@@ -62,7 +62,7 @@ pub(crate) fn work<P: Plane, L: Line>(
             room: line.room(),
         });
     }
-    terminal.go_on(reading);
+    terminal.parser = reading.parser;
     terminal.act(plane, reading.action);
     keep(strokes, reading.action);
     Ok(())

@@ -1,52 +1,64 @@
-use Rattle.std.proofs.Common.{◌+◌, ltb, ◌∙◌, add-zero, arith}
-use Rattle.operation.specs.Operation.{applied}
-use Rattle.plane.specs.Run.{from_row}
-use Rattle.plane.proofs.CopyLaws.{before_turns, after_turns, turn, one_copied, none_copied, copy_cut}
-use Rattle.plane.proofs.CountLaws.{changes_most}
+use Rattle.std.proofs.Common.{◌≡◌, ◌+◌, ◌-◌, ◌≤◌, sym, refl, ap, ◌∙◌, add-zero, arith}
+use Rattle.std.proofs.lemmas.Bool.{cond-true, eq-eqb}
+use Rattle.plane.specs.Run.{from_row, mapped}
+use Rattle.plane.proofs.CopyLaws.{one_copied, none_copied, copy_cut, copied_apart}
+use Rattle.plane.proofs.CountLaws.{no_change, changes_most}
+use Rattle.plane.proofs.RunLaws.{Done, not_begun, one_longer}
 use Rattle.plane.proofs.Plane.copy_places.Goals as goal
 
-pub loop-k-init : goal.loop-k-init
-loop-k-init g c =
+pub returns-then-sy-y : goal.returns-then-sy-y
+returns-then-sy-y g c =
+    let a = c.args in
+    record { picture = sym (cond-true _ _ _ (eq-eqb a.sy a.y c.if-sy-y.true)); count = sym (no_change a.y (g.Self.Plane.picture a.self.now)) }
+
+pub loop-i-init : goal.loop-i-init
+loop-i-init g c =
     let a = c.args in
     let p = g.Self.Plane.picture a.self.now in
-    (omega arith, before_turns a.x0 c.span-len.result (ltb a.sx a.x0) a.y (from_row a.operation p a.x0 a.sy a.sx) p)
+    (omega arith, rw add-zero (not_begun a.y a.x0 (from_row p a.x0 a.sy a.sx) p))
 
 pub overflow-add-count : goal.overflow-add-count
 overflow-add-count g c =
     let a = c.args in
     let pic = g.Self.Plane.picture in
     let p = pic a.self.now in
-    let l = c.loop-k in
+    let l = c.loop-i in
     let q = pic l.self in
-    let j = c.join-run-count in
-    let r = pic j.new.self in
-    let i = c.in-turn-i.result in
-    let one = one_copied a.operation q a.y (a.x0 + i) a.sy (a.sx + i) c.in-Ok.source c.combine-zero.result c.combine-one.result r j.result c.in-Ok.ensures c.combine-zero.ensures c.combine-one.ensures (record { picture = j.ensures.picture; count = j.ensures.count }) in
-    omega (arith, (turn a.operation p q r a.y a.x0 a.sy a.sx c.span-len.result l.k 1 i l.count j.result (omega arith) c.in-turn-i.ensures l.invariant.1 one).count, changes_most a.y p r)
+    let r = pic c.fill-run-count.new.self in
+    let x = a.x0 + l.i in
+    let f = from_row p a.x0 a.sy a.sx in
+    let one : Done a.y x (x + 1) f q r c.fill-run-count.result = record {
+      picture = c.fill-run-count.ensures.picture ∙ one_copied p q a.y a.x0 x a.sy a.sx c.if-sy-y.false (omega arith) l.invariant.1.picture c.in-Ok.bit c.in-Ok.ensures (omega arith);
+      count = c.fill-run-count.ensures.count;
+    } in
+    omega (arith, (one_longer a.y a.x0 f p x q r l.count c.fill-run-count.result (omega arith) l.invariant.1 one).count, changes_most a.y p r)
 
-pub loop-k-preserved : goal.loop-k-preserved
-loop-k-preserved g c =
+pub loop-i-preserved : goal.loop-i-preserved
+loop-i-preserved g c =
     let a = c.args in
     let pic = g.Self.Plane.picture in
     let p = pic a.self.now in
-    let l = c.loop-k in
+    let l = c.loop-i in
     let q = pic l.self in
-    let i = c.in-turn-i.result in
+    let x = a.x0 + l.i in
+    let f = from_row p a.x0 a.sy a.sx in
+    let next : x + 1 ≡ a.x0 + (l.i + 1) = omega arith in
     elim c.match-ask.branch [
-      | goal.in-Ok w ↦ let j = w.join-run-count in
-          let r = pic j.new.self in
-          let one = one_copied a.operation q a.y (a.x0 + i) a.sy (a.sx + i) w.in-Ok.source w.combine-zero.result w.combine-one.result r j.result w.in-Ok.ensures w.combine-zero.ensures w.combine-one.ensures (record { picture = j.ensures.picture; count = j.ensures.count }) in
-          (omega arith, rw (w.self-is, w.count-is) (turn a.operation p q r a.y a.x0 a.sy a.sx c.span-len.result l.k 1 i l.count j.result (omega arith) c.in-turn-i.ensures l.invariant.1 one))
-      | goal.in-Err w ↦ (omega arith, rw (w.self-is, w.count-is, ← add-zero l.count) (turn a.operation p q q a.y a.x0 a.sy a.sx c.span-len.result l.k 1 i l.count 0 (omega arith) c.in-turn-i.ensures l.invariant.1 (none_copied a.operation q a.y (a.x0 + i) a.sy (a.sx + i) _ w.in-Err.ensures)))
+      | goal.in-Ok w ↦ let r = pic w.fill-run-count.new.self in
+          let one : Done a.y x (x + 1) f q r w.fill-run-count.result = record {
+            picture = w.fill-run-count.ensures.picture ∙ one_copied p q a.y a.x0 x a.sy a.sx c.if-sy-y.false (omega arith) l.invariant.1.picture w.in-Ok.bit w.in-Ok.ensures (omega arith);
+            count = w.fill-run-count.ensures.count;
+          } in
+          (omega arith, rw (w.self-is, w.count-is, ← next) (one_longer a.y a.x0 f p x q r l.count w.fill-run-count.result (omega arith) l.invariant.1 one))
+      | goal.in-Err w ↦ (omega arith, rw (w.self-is, w.count-is, ← next, ← add-zero l.count) (one_longer a.y a.x0 f p x q q l.count 0 (omega arith) l.invariant.1 (none_copied p q a.y a.x0 x a.sy a.sx c.if-sy-y.false (omega arith) l.invariant.1.picture _ w.in-Err.ensures (omega arith))))
     ]
 
 pub returns : goal.returns
 returns g c =
     let a = c.args in
     let p = g.Self.Plane.picture a.self.now in
-    let l = c.loop-k in
-    let len = c.span-len.result in
+    let l = c.loop-i in
     record {
-      picture = l.invariant.1.picture ∙ after_turns a.x0 len (ltb a.sx a.x0) a.y l.k (from_row a.operation p a.x0 a.sy a.sx) p c.loop-k-test.false l.invariant.0 ∙ copy_cut p (applied a.operation) a.y a.x0 a.sy a.sx a.x1 len (omega arith);
+      picture = l.invariant.1.picture ∙ copy_cut p a.y a.x0 a.sy a.sx a.x1 l.i (omega arith) ∙ copied_apart p a.y a.x0 a.sy a.sx a.x1 c.if-sy-y.false;
       count = l.invariant.1.count;
     }

@@ -2,7 +2,7 @@ use Rattle.std.proofs.Common.{◌+◌, ◌-◌, ◌*◌, ◌/◌, ◌<◌, cond,
 use lib.Bits.{bit_xor, xor_lt}
 use Rattle.std.proofs.lemmas.Nat.{ones-le}
 use Rattle.std.proofs.lemmas.Bool.Decides.{nat_tests}
-use Rattle.operation.specs.Bits.{bit}
+use Rattle.plane.specs.Bits.{bit}
 use Rattle.plane.proofs.ByteLaws.{in_room, byte_written, byte_changes}
 use Rattle.plane.proofs.bytewise.join_in_byte.Goals as goal
 

@@ -1,21 +1,20 @@
-use Rattle.std.proofs.Common.{sym, refl, ap, ◌∙◌, ap₂, arith}
-use Rattle.operation.specs.Operation.{applied}
-use Rattle.plane.specs.Layout.{rows, shown}
-use Rattle.plane.specs.Run.{copied_run, changes}
-use Rattle.plane.proofs.CopyLaws.{copy_cut}
-use Rattle.plane.proofs.RoomLaws.{held_shown}
+use Rattle.std.proofs.Common.{sym, refl, ap, ◌∙◌, arith}
+use Rattle.plane.specs.Layout.{rows, held, shown}
+use Rattle.plane.specs.Run.{mapped, from_row}
+use Rattle.plane.proofs.CopyLaws.{copied_apart}
+use Rattle.plane.proofs.RoomLaws.{held_shown, held_run}
 use Rattle.plane.proofs.packed.PackedPlane.copy_run.Goals as goal
 
-pub returns-then-sy-height : goal.returns-then-sy-height
-returns-then-sy-height c =
+pub returns-then-sx-end : goal.returns-then-sx-end
+returns-then-sx-end c =
     let a = c.args in
     let s = a.self.now in
     let m = s.memory.now in
     let l = rows s.stride s.height in
     let room = sym c.if-has-room.ensures in
-    let was = sym (held_shown l m room m refl) in
-    let is = held_shown l m room c.copy-in-row.new.memory (omega arith) in
+    let f = c.copy-in-row.ensures in
+    let d = held_run l m room c.copy-in-row.new.memory a.y a.x0 a.x1 c.min-end.result c.copy-in-row.result (from_row (shown l m) a.x0 a.sy a.sx) (omega arith) c.min-end.ensures c.if-x0-end.true (record { picture = f.picture; count = f.count }) in
     record {
-      picture = is ∙ c.copy-in-row.ensures.picture ∙ copy_cut (shown l m) (applied a.operation) a.y a.x0 a.sy a.sx a.x1 c.span-len.result c.span-len.ensures ∙ ap (copied_run a.operation a.y a.x0 a.x1 a.sy a.sx) was;
-      count = c.copy-in-row.ensures.count ∙ ap₂ (changes a.y) was (sym is);
+      picture = d.picture ∙ ap (λ p. mapped a.y a.x0 a.x1 (from_row p a.x0 a.sy a.sx) (held l m)) (sym (held_shown l m room m refl)) ∙ copied_apart (held l m) a.y a.x0 a.sy a.sx a.x1 c.if-sy-y.true;
+      count = d.count;
     }

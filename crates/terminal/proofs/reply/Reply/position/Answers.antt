@@ -1,7 +1,5 @@
 use Rattle.std.proofs.Common.{[], ◌∷◌, ◌++◌, ap, ◌∙◌, ap₂, arith, w16, SFits, rules}
 use Rattle.std.proofs.lemmas.Int.{to_z-of_z}
-use Rattle.regions.specs.declared.window.Window.{Window}
-use Rattle.regions.specs.Regions.{chosen}
 use Rattle.state.specs.Reply.{cut, coordinates, ending}
 use Rattle.terminal.specs.Reply.{content}
 use Rattle.terminal.proofs.ReplyLaws.{parts}
@@ -10,12 +8,12 @@ use Rattle.terminal.proofs.reply.Reply.position.Goals as goal
 pub returns : goal.returns
 returns c =
     let t = c.args.terminal.now in
-    let p = (chosen t.regions).position in
-    let fx : SFits w16 c.current.result.position.x = search rules in
-    let fy : SFits w16 c.current.result.position.y = search rules in
+    let p = t.window.position in
+    let fx : SFits w16 p.x = search rules in
+    let fy : SFits w16 p.y = search rules in
     let before = content c.args.self.now in
-    let x = (simp to_z-of_z at c.cut.ensures) ∙ ap (λ (w : Window). cut w.position.x) c.current.ensures in
-    let y = (simp to_z-of_z at c.cut-2.ensures) ∙ ap (λ (w : Window). cut w.position.y) c.current.ensures in
+    let x = simp to_z-of_z at c.cut.ensures in
+    let y = simp to_z-of_z at c.cut-2.ensures in
     let status = content c.append.new.self in
     let at = c.coordinates.ensures.content ∙ ap₂ (λ a b. status ++ coordinates a b) x y in
     let report = parts status (content c.coordinates.new.self) (content c.end.new.self) (coordinates (cut p.x) (cut p.y)) (ending t.setup.terminator) at c.end.ensures.content in

@@ -1,0 +1,18 @@
+//! A region with what drawing in it needs.
+use raster::operation::Operation;
+use raster::region::{Point, Region};
+
+/// How drawing joins its points.
+#[derive(Clone, Copy)]
+pub struct Pen {
+    pub drawing: Operation,
+}
+
+/// The selected region: its number, its area, the active position counted from its lower left, and its pen.
+#[derive(Clone, Copy)]
+pub struct Window {
+    pub number: u8,
+    pub area: Region,
+    pub position: Point,
+    pub pen: Pen,
+}
