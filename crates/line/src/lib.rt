@@ -1,4 +1,6 @@
 //! A line: bytes that wait in order, a room and a fixed capacity.
+#![tactic(auto)]
+
 ghost use Rattle.std.specs.Prelude.{◌≡◌, ◌≤◌, false, length, take, drop, None};
 ghost use Rattle.line.specs.Transfer.{Answered, Delivered, Emptied};
 ghost use Rattle.line.specs.Wire.{Wire, Lawful};

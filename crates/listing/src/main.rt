@@ -1,4 +1,6 @@
 //! Feeds standard input to a new terminal and prints the listing of its picture.
+#![tactic(auto)]
+
 use keyboard::key::Key;
 use keyboard::stroke::Stroke;
 use line::{Line, drain};

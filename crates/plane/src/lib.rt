@@ -1,4 +1,6 @@
 //! Planes: a width, a height and one bit for each place. (0, 0) is lower left, and 1 is foreground.
+#![tactic(auto)]
+
 ghost use Rattle.std.specs.Prelude.{◌≡◌, ℕ, Bool, false, if◌then◌else◌, Err};
 ghost use Rattle.refusal.specs.declared.Refusal.TheVariants.{Outside};
 ghost use Rattle.plane.specs.Picture.{Picture, has, put, asked, answered};

@@ -1,4 +1,6 @@
 //! A queue over memory that it is lent, for every kind of element. The oldest element leaves first.
+#![tactic(auto)]
+
 ghost use Rattle.std.specs.Prelude.{◌-◌, ◌≤◌, length};
 
 mod calls;

@@ -1,4 +1,6 @@
 //! Raster operations, and drawing by them inside a region of any plane.
+#![tactic(auto)]
+
 pub mod clear;
 pub mod join;
 pub mod line;

@@ -1,4 +1,6 @@
 //! Why a call is refused: one enum for the whole engine, each case with its number.
+#![tactic(auto)]
+
 ghost use Rattle.std.specs.Prelude.{◌≡◌};
 ghost use Rattle.refusal.specs.Number.{number_of};
 

@@ -1,4 +1,6 @@
 //! Plays one recording on planes of every make, and calls that are refused, for the gate to compare.
+#![tactic(auto)]
+
 use keyboard::key::Key;
 use keyboard::stroke::Stroke;
 use line::packets::Packets;

@@ -1,4 +1,6 @@
 //! Plays a script of calls from standard input and prints what each answered.
+#![tactic(auto)]
+
 mod answer;
 mod command;
 mod desk;

@@ -1,4 +1,6 @@
 //! What a terminal is, and what each host byte does to it and to its picture.
+#![tactic(auto)]
+
 pub mod action;
 pub mod reading;
 pub mod setup;
