@@ -17,21 +17,21 @@ loop-i-init g c =
     let p = g.Self.Plane.picture a.self.now in
     (omega arith, rw add-zero (not_begun a.y a.x0 (from_row p a.x0 a.sy a.sx) p))
 
-pub overflow-add-count : goal.overflow-add-count
-overflow-add-count g c =
+pub overflow_add-count : goal.overflow_add-count
+overflow_add-count g c =
     let a = c.args in
     let pic = g.Self.Plane.picture in
     let p = pic a.self.now in
     let l = c.loop-i in
     let q = pic l.self in
-    let r = pic c.fill-run-count.new.self in
+    let r = pic c.fill_run-count.new.self in
     let x = a.x0 + l.i in
     let f = from_row p a.x0 a.sy a.sx in
-    let one : Done a.y x (x + 1) f q r c.fill-run-count.result = record {
-      picture = c.fill-run-count.ensures.picture ∙ one_copied p q a.y a.x0 x a.sy a.sx c.if-sy-y.false (omega arith) l.invariant.1.picture c.in-Ok.bit c.in-Ok.ensures (omega arith);
-      count = c.fill-run-count.ensures.count;
+    let one : Done a.y x (x + 1) f q r c.fill_run-count.result = record {
+      picture = c.fill_run-count.ensures.picture ∙ one_copied p q a.y a.x0 x a.sy a.sx c.if-sy-y.false (omega arith) l.invariant.1.picture c.in-Ok.bit c.in-Ok.ensures (omega arith);
+      count = c.fill_run-count.ensures.count;
     } in
-    omega (arith, (one_longer a.y a.x0 f p x q r l.count c.fill-run-count.result (omega arith) l.invariant.1 one).count, changes_most a.y p r)
+    omega (arith, (one_longer a.y a.x0 f p x q r l.count c.fill_run-count.result (omega arith) l.invariant.1 one).count, changes_most a.y p r)
 
 pub loop-i-preserved : goal.loop-i-preserved
 loop-i-preserved g c =
@@ -44,12 +44,12 @@ loop-i-preserved g c =
     let f = from_row p a.x0 a.sy a.sx in
     let next : x + 1 ≡ a.x0 + (l.i + 1) = omega arith in
     elim c.match-ask.branch [
-      | goal.in-Ok w ↦ let r = pic w.fill-run-count.new.self in
-          let one : Done a.y x (x + 1) f q r w.fill-run-count.result = record {
-            picture = w.fill-run-count.ensures.picture ∙ one_copied p q a.y a.x0 x a.sy a.sx c.if-sy-y.false (omega arith) l.invariant.1.picture w.in-Ok.bit w.in-Ok.ensures (omega arith);
-            count = w.fill-run-count.ensures.count;
+      | goal.in-Ok w ↦ let r = pic w.fill_run-count.new.self in
+          let one : Done a.y x (x + 1) f q r w.fill_run-count.result = record {
+            picture = w.fill_run-count.ensures.picture ∙ one_copied p q a.y a.x0 x a.sy a.sx c.if-sy-y.false (omega arith) l.invariant.1.picture w.in-Ok.bit w.in-Ok.ensures (omega arith);
+            count = w.fill_run-count.ensures.count;
           } in
-          (omega arith, rw (w.self-is, w.count-is, ← next) (one_longer a.y a.x0 f p x q r l.count w.fill-run-count.result (omega arith) l.invariant.1 one))
+          (omega arith, rw (w.self-is, w.count-is, ← next) (one_longer a.y a.x0 f p x q r l.count w.fill_run-count.result (omega arith) l.invariant.1 one))
       | goal.in-Err w ↦ (omega arith, rw (w.self-is, w.count-is, ← next, ← add-zero l.count) (one_longer a.y a.x0 f p x q q l.count 0 (omega arith) l.invariant.1 (none_copied p q a.y a.x0 x a.sy a.sx c.if-sy-y.false (omega arith) l.invariant.1.picture _ w.in-Err.ensures (omega arith))))
     ]
 

@@ -6,6 +6,6 @@ pub returns : goal.returns
 returns g c =
     let a = c.args in
     record {
-      picture = c.join-run.ensures.picture ∙ join_fills (g.Self.Plane.picture a.self.now) a.y a.x0 a.x1 a.bit;
-      count = c.join-run.ensures.count;
+      picture = c.join_run.ensures.picture ∙ join_fills (g.Self.Plane.picture a.self.now) a.y a.x0 a.x1 a.bit;
+      count = c.join_run.ensures.count;
     }

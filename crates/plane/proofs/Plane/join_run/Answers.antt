@@ -16,8 +16,8 @@ loop-x-preserved g c =
     let f : ℕ → Bool → Bool = λ _ old. cond old a.one a.zero in
     let step = one_longer a.y a.x0 f (pic a.self.now) l.x q in
     elim c.match-ask.branch [
-      | goal.in-Ok+then-new-old w ↦ (omega arith, omega (arith, w.count-is), rw (w.self-is, w.count-is) (step (pic w.set.new.self) l.count 1 l.auto.x l.invariant.2 (place_set q l.x a.y f w.in-Ok.old w.by-bit-new.result w.in-Ok.ensures w.by-bit-new.ensures (pic w.set.new.self) w.if-new-old.true w.set.ensures.picture)))
-      | goal.in-Ok+else-new-old w ↦ (omega arith, omega (arith, w.count-is), rw (w.self-is, w.count-is, ← add-zero l.count) (step q l.count 0 l.auto.x l.invariant.2 (place_left q l.x a.y f w.in-Ok.old w.by-bit-new.result w.in-Ok.ensures w.by-bit-new.ensures w.if-new-old.false)))
+      | goal.in-Ok+then-new-old w ↦ (omega arith, omega (arith, w.count-is), rw (w.self-is, w.count-is) (step (pic w.set.new.self) l.count 1 l.auto.x l.invariant.2 (place_set q l.x a.y f w.in-Ok.old w.by_bit-new.result w.in-Ok.ensures w.by_bit-new.ensures (pic w.set.new.self) w.if-new-old.true w.set.ensures.picture)))
+      | goal.in-Ok+else-new-old w ↦ (omega arith, omega (arith, w.count-is), rw (w.self-is, w.count-is, ← add-zero l.count) (step q l.count 0 l.auto.x l.invariant.2 (place_left q l.x a.y f w.in-Ok.old w.by_bit-new.result w.in-Ok.ensures w.by_bit-new.ensures w.if-new-old.false)))
       | goal.in-Err w ↦ (omega arith, omega (arith, w.count-is), rw (w.self-is, w.count-is, ← add-zero l.count) (step q l.count 0 l.auto.x l.invariant.2 (place_outside q l.x a.y f _ w.in-Err.ensures)))
     ]
 

@@ -4,8 +4,8 @@ use Rattle.std.proofs.lemmas.Nat.{shr_le}
 use Rattle.plane.proofs.MaskLaws.{places_bits}
 use Rattle.plane.proofs.bytewise.places.Goals as goal
 
-pub overflow-cast-result-3 : goal.overflow-cast-result-3
-overflow-cast-result-3 c =
+pub overflow_cast-result-3 : goal.overflow_cast-result-3
+overflow_cast-result-3 c =
     let lo = c.args.lo in
     let hi = c.args.hi in
     omega (arith, xor_lt 8 (255 / 2 ^ lo) (255 / 2 ^ hi) (omega (arith, shr_le 255 lo)) (omega (arith, shr_le 255 hi)))

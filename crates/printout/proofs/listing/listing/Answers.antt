@@ -12,19 +12,19 @@ returns-then-not-matches g c =
     let q = unlike t p c.args.buffer.now (sym c.if-not-matches.ensures) in
     record { value = q.0; buffer = q.1; within = tt; bounded = bounded }
 
-pub returns-then-not-has-room : goal.returns-then-not-has-room
-returns-then-not-has-room g c =
+pub returns-then-not-has_room : goal.returns-then-not-has_room
+returns-then-not-has_room g c =
     let t = c.args.terminal.now in
     let p = g.P.Plane.picture c.args.plane.now in
-    let q = tight t p c.args.buffer.now (sym c.if-not-matches.ensures) (sym c.if-not-has-room.ensures) in
+    let q = tight t p c.args.buffer.now (sym c.if-not-matches.ensures) (sym c.if-not-has_room.ensures) in
     record { value = q.0; buffer = q.1; within = tt; bounded = bounded }
 
 pub returns : goal.returns
 returns g c =
     let t = c.args.terminal.now in
     let p = g.P.Plane.picture c.args.plane.now in
-    let q = roomy t p c.args.buffer.now (sym c.if-not-matches.ensures) (sym c.if-not-has-room.ensures) in
-    let above = c.put-rows-at.ensures in
+    let q = roomy t p c.args.buffer.now (sym c.if-not-matches.ensures) (sym c.if-not-has_room.ensures) in
+    let above = c.put_rows-at.ensures in
     let below = c.put.ensures in
-    let all = all_written t p c.args.buffer.now c.put-rows-at.new.buffer c.put.new.buffer c.put-rows-at.result above.end above.text above.rest (below.text ∙ ap (λ l. take c.put-rows-at.result c.put-rows-at.new.buffer ++ text_of l) c.last-line.ensures) below.rest in
-    record { value = ap Ok (below.end ∙ ap (λ n. n + 25) above.end) ∙ q.0; buffer = all ∙ q.1; within = omega (arith, below.end, above.end, leb-true _ _ (sym c.if-not-has-room.ensures)); bounded = bounded }
+    let all = all_written t p c.args.buffer.now c.put_rows-at.new.buffer c.put.new.buffer c.put_rows-at.result above.end above.text above.rest (below.text ∙ ap (λ l. take c.put_rows-at.result c.put_rows-at.new.buffer ++ text_of l) c.last_line.ensures) below.rest in
+    record { value = ap Ok (below.end ∙ ap (λ n. n + 25) above.end) ∙ q.0; buffer = all ∙ q.1; within = omega (arith, below.end, above.end, leb-true _ _ (sym c.if-not-has_room.ensures)); bounded = bounded }

@@ -11,7 +11,7 @@ pub loop-v-preserved : goal.loop-v-preserved
 loop-v-preserved g c =
     let l = c.loop-v in
     let r = c.args.region in
-    (omega arith, c.clear-row.ensures ∙ ap (without (row_of r l.v)) l.invariant.1 ∙ row_more (g.P.Plane.picture c.args.plane.now) r l.v (omega arith))
+    (omega arith, c.clear_row.ensures ∙ ap (without (row_of r l.v)) l.invariant.1 ∙ row_more (g.P.Plane.picture c.args.plane.now) r l.v (omega arith))
 
 pub returns : goal.returns
 returns g c = record {

@@ -4,17 +4,17 @@ use Rattle.raster.proofs.Confinement.{confined_joined}
 use Rattle.raster.proofs.JoinLaws.{joined_at, joined_beside, joined_above}
 use Rattle.raster.proofs.join.join.Goals as goal
 
-pub returns-in-default : goal.returns-in-default
-returns-in-default g c =
+pub returns-in_default : goal.returns-in_default
+returns-in_default g c =
     let a = c.args in
     let fx : SFits w16 a.at.x = search rules in
-    record { picture = joined_beside _ a.region a.operation a.source a.at (simp to_z-of_z at c.in-default.ensures); confined = confined_joined a.region a.operation a.source a.at }
+    record { picture = joined_beside _ a.region a.operation a.source a.at (simp to_z-of_z at c.in_default.ensures); confined = confined_joined a.region a.operation a.source a.at }
 
-pub returns-in-default-place : goal.returns-in-default-place
-returns-in-default-place g c =
+pub returns-in_default-place : goal.returns-in_default-place
+returns-in_default-place g c =
     let a = c.args in
     let fy : SFits w16 a.at.y = search rules in
-    record { picture = joined_above _ a.region a.operation a.source a.at (simp to_z-of_z at c.in-default-place.ensures); confined = confined_joined a.region a.operation a.source a.at }
+    record { picture = joined_above _ a.region a.operation a.source a.at (simp to_z-of_z at c.in_default-place.ensures); confined = confined_joined a.region a.operation a.source a.at }
 
 pub returns : goal.returns
 returns g c =

@@ -16,7 +16,7 @@ loop-i-preserved g c =
     let f4 : SFits w16 a.to.y = search rules in
     let f5 : SFits w16 c.toward-x.result = search rules in
     let f6 : SFits w16 c.toward-y.result = search rules in
-    let made = point_made a.from a.to c.max-n.result c.abs-diff.result c.abs-diff-2.result l.i c.toward-x.result c.toward-y.result c.max-n.ensures (simp to_z-of_z at c.abs-diff.ensures) (simp to_z-of_z at c.abs-diff-2.ensures) (simp to_z-of_z at c.toward-x.ensures) (simp to_z-of_z at c.toward-y.ensures) in
+    let made = point_made a.from a.to c.max-n.result c.abs_diff.result c.abs_diff-2.result l.i c.toward-x.result c.toward-y.result c.max-n.ensures (simp to_z-of_z at c.abs_diff.ensures) (simp to_z-of_z at c.abs_diff-2.ensures) (simp to_z-of_z at c.toward-x.ensures) (simp to_z-of_z at c.toward-y.ensures) in
     dot_more (g.P.Plane.picture a.plane.now) a.region a.operation _ _ (point a.from a.to) l.i _ made l.invariant (simp to_z-of_z at c.join.ensures.picture)
 
 pub returns : goal.returns
@@ -31,7 +31,7 @@ returns g c =
     elim c.if-last.branch [ then-last w ↦ rw w.if-last.true w.count-is | else-last w ↦ rw w.if-last.false w.count-is ] in
     let all : c.loop-i.i ≡ cond a.last (n + 1) n = let e : c.loop-i.i ≡ c.if-last.count = omega arith in e ∙ count in
     record {
-      picture = c.loop-i.invariant ∙ line_all (g.P.Plane.picture a.plane.now) a.region a.operation a.from a.to n c.abs-diff.result c.abs-diff-2.result c.loop-i.i a.last c.max-n.ensures (simp to_z-of_z at c.abs-diff.ensures) (simp to_z-of_z at c.abs-diff-2.ensures) all;
+      picture = c.loop-i.invariant ∙ line_all (g.P.Plane.picture a.plane.now) a.region a.operation a.from a.to n c.abs_diff.result c.abs_diff-2.result c.loop-i.i a.last c.max-n.ensures (simp to_z-of_z at c.abs_diff.ensures) (simp to_z-of_z at c.abs_diff-2.ensures) all;
       confined = confined_lined a.region a.operation a.from a.to a.last;
       composes = composes;
       worked = record { and_inverted = refl; or_inverted = refl; there = refl; not_there = refl; back = refl; not_back = refl };

@@ -16,7 +16,7 @@ pub loop-byte-init : goal.loop-byte-init
 loop-byte-init g c =
     let a = c.args in
     let s = set_of a.terminal.now a.face.now (g.P.Plane.picture a.plane.now) (waiting a.strokes.now) (places a.strokes.now) (g.L.Line.carried a.line.now) in
-    let e = sym c.in-default.ensures in
+    let e = sym c.in_default.ensures in
     (refl, (admitted s e).places, so_far_none s a.bytes.now e)
 
 pub work-requires : goal.work-requires
@@ -38,7 +38,7 @@ loop-byte-preserved g c =
     let start = set_of a.terminal.now a.face.now (pic a.plane.now) (waiting a.strokes.now) (places a.strokes.now) (wire a.line.now) in
     let before = set_of l.terminal a.face.now (pic l.plane) (waiting l.strokes) (places l.strokes) (wire l.line) in
     let later = set_of w.terminal a.face.now (pic w.plane) (waiting w.strokes) (places w.strokes) (wire w.line) in
-    let done = with_face a.face.now _ _ _ c.in-default-work.ensures.worked in
+    let done = with_face a.face.now _ _ _ c.in_default-work.ensures.worked in
     let read = subst (λ (r : Reading). Does before r later) c.read-reading.ensures done in
     (omega arith, omega (arith, done.places, l.invariant.1), so_far_more start before later a.bytes.now l.byte-index c.loop-byte-test.true l.invariant.2 read)
 
@@ -52,7 +52,7 @@ returns g c =
     let end = set_of l.terminal a.face.now (pic l.plane) (waiting l.strokes) (places l.strokes) (wire l.line) in
     let all = take_all l.byte-index a.bytes.now c.loop-byte-test.false in
     record {
-      fed = (sym c.in-default.ensures, omega arith, subst (λ bs. Works start bs end) all l.invariant.2.works);
+      fed = (sym c.in_default.ensures, omega arith, subst (λ bs. Works start bs end) all l.invariant.2.works);
       plane = λ e. absurd (false≢true e);
       line = λ e. absurd (false≢true e);
       strokes = λ e. absurd (false≢true e);

@@ -14,6 +14,6 @@ work-requires g c =
     let q = a.strokes.now in
     let s = set_of a.terminal.now a.face.now (g.P.Plane.picture a.plane.now) (waiting q) (places q) (g.L.Line.carried a.line.now) in
     record {
-      few = omega (arith, (admitted s (sym c.in-default.ensures)).places, waiting_fits q);
-      place = subst (λ (r : Reading). Holds r.action (length (waiting q)) (places q)) (sym c.strike-reading.ensures) (stroke_holds a.terminal.now c.in-Some-from-number.stroke a.number (length (waiting q)) (places q) c.in-default-key-refusal.ensures);
+      few = omega (arith, (admitted s (sym c.in_default.ensures)).places, waiting_fits q);
+      place = subst (λ (r : Reading). Holds r.action (length (waiting q)) (places q)) (sym c.strike-reading.ensures) (stroke_holds a.terminal.now c.in-Some-from_number.stroke a.number (length (waiting q)) (places q) c.in_default-key_refusal.ensures);
     }

@@ -4,8 +4,8 @@ use Rattle.std.proofs.lemmas.Slice.{overwrites}
 use Rattle.line.specs.Content.{content}
 use Rattle.line.proofs.packet.Packet.of.Goals as goal
 
-pub invariant-of-result : goal.invariant-of-result
-invariant-of-result c = search (rules, places)
+pub invariant_of-result : goal.invariant_of-result
+invariant_of-result c = search (rules, places)
 
 pub returns : goal.returns
 unfolding content

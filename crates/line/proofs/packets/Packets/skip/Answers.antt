@@ -8,4 +8,4 @@ use Rattle.line.proofs.packets.Packets.skip.Goals as goal
 pub loop-i-preserved : goal.loop-i-preserved
 loop-i-preserved c =
     take_rest c.take.result (packet_wire c.loop-i.self) (packet_wire c.take.new.self) c.take.ensures.delivered
-    ∙ ap (drop 1) c.loop-i.invariant ∙ drop-drop 1 c.loop-i.-i (contents (in_use c.args.self.now))
+    ∙ ap (drop 1) c.loop-i.invariant ∙ drop-drop 1 c.loop-i._i (contents (in_use c.args.self.now))

@@ -11,9 +11,9 @@ returns-then-sx-end c =
     let s = a.self.now in
     let m = s.memory.now in
     let l = rows s.stride s.height in
-    let room = sym c.if-has-room.ensures in
-    let f = c.copy-in-row.ensures in
-    let d = held_run l m room c.copy-in-row.new.memory a.y a.x0 a.x1 c.min-end.result c.copy-in-row.result (from_row (shown l m) a.x0 a.sy a.sx) (omega arith) c.min-end.ensures c.if-x0-end.true (record { picture = f.picture; count = f.count }) in
+    let room = sym c.if-has_room.ensures in
+    let f = c.copy_in_row.ensures in
+    let d = held_run l m room c.copy_in_row.new.memory a.y a.x0 a.x1 c.min-end.result c.copy_in_row.result (from_row (shown l m) a.x0 a.sy a.sx) (omega arith) c.min-end.ensures c.if-x0-end.true (record { picture = f.picture; count = f.count }) in
     record {
       picture = d.picture ∙ ap (λ p. mapped a.y a.x0 a.x1 (from_row p a.x0 a.sy a.sx) (held l m)) (sym (held_shown l m room m refl)) ∙ copied_apart (held l m) a.y a.x0 a.sy a.sx a.x1 c.if-sy-y.true;
       count = d.count;

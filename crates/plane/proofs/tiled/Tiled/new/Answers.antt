@@ -5,10 +5,10 @@ use Rattle.plane.proofs.LayoutLaws.{held_nothing}
 use Rattle.plane.proofs.MemoryLaws.{unfit}
 use Rattle.plane.proofs.tiled.Tiled.new.Goals as goal
 
-pub returns-then-is-err : goal.returns-then-is-err
-returns-then-is-err c =
+pub returns-then-is_err : goal.returns-then-is_err
+returns-then-is_err c =
     let m = c.args.memory.now in
-    let no_fit = unfit c.args.width c.args.height 64 (length m) c.check-tiles.result c.check-tiles.ensures c.if-is-err.ensures.value in
+    let no_fit = unfit c.args.width c.args.height 64 (length m) c.check_tiles.result c.check_tiles.ensures c.if-is_err.ensures.value in
     record {
       across = sym (cond-false _ _ _ no_fit);
       up = sym (cond-false _ _ _ no_fit);

@@ -7,5 +7,5 @@ use Rattle.plane.proofs.tiled.TiledPlane.set.Goals as goal
 pub returns-in-Some : goal.returns-in-Some
 returns-in-Some c =
     let s = c.args.self.now in
-    let q = found_put (tiles s.across s.up) (tiles_sound s.across s.up) s.memory.now c.args.x c.args.y c.in-Some.at c.with-bit.result c.args.bit c.in-Some.ensures.value c.with-bit.ensures.bits in
+    let q = found_put (tiles s.across s.up) (tiles_sound s.across s.up) s.memory.now c.args.x c.args.y c.in-Some.at c.with_bit.result c.args.bit c.in-Some.ensures.value c.with_bit.ensures.bits in
     record { value = sym (cond-true _ _ _ q.0); picture = q.1; same = search rules }

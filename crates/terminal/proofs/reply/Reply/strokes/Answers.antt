@@ -15,7 +15,7 @@ loop-i-preserved c =
     elim c.match-get.branch [
       | goal.in-Some w ↦ let e = w.stroke.ensures in
           (ap content w.self-is ∙ e.content ∙ ap (λ r. r ++ codes_of w.in-Some.stroke t.emulation t.modes.keys) l.invariant.0 ∙ codes_more t ks l.i w.in-Some.stroke w.in-Some.ensures, rw w.self-is (omega (arith, e.length, l.invariant.1)))
-      | goal.in-default w ↦ absurd (omega (arith, ends_before ks l.i w.in-default.ensures))
+      | goal.in_default w ↦ absurd (omega (arith, ends_before ks l.i w.in_default.ensures))
     ]
 
 pub returns : goal.returns

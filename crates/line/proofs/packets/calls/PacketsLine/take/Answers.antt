@@ -9,7 +9,7 @@ use Rattle.line.specs.declared.packets.Packets.{Packets}
 use Rattle.line.proofs.PacketLaws.{first_leaves}
 use Rattle.line.proofs.RingEdits.{ring_set_first}
 use Rattle.line.proofs.packets.calls.PacketsLine.take.Goals as goal
-use Rattle.line.proofs.packets.calls.PacketsLine.take.Goals.{in-Some, in-default}
+use Rattle.line.proofs.packets.calls.PacketsLine.take.Goals.{in-Some, in_default}
 
 pub returns-then-self-eq0 : goal.returns-then-self-eq0
 returns-then-self-eq0 c =
@@ -35,8 +35,8 @@ returns c =
     let after : After c.match-rest.self = elim c.match-rest.branch [
       | in-Some w ↦ subst After (sym w.self-is)
           (ap contents (ring_set_first ps h n p w.in-Some.rest rest inside some fits parts) ∙ ap (λ bs. bs ++ contents rest) w.in-Some.ensures)
-      | in-default w ↦ subst After (sym w.self-is)
-          (ap (λ k. contents (ring ps k (n - 1))) (w.place-self.ensures ∙ ap (λ k. place k h 1) (sym eight)) ∙ sym (ap (λ bs. bs ++ contents rest) w.in-default.ensures))
+      | in_default w ↦ subst After (sym w.self-is)
+          (ap (λ k. contents (ring ps k (n - 1))) (w.place-self.ensures ∙ ap (λ k. place k h 1) (sym eight)) ∙ sym (ap (λ bs. bs ++ contents rest) w.in_default.ensures))
     ] in
     record {
       delivered = record {
