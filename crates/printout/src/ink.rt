@@ -31,7 +31,7 @@ impl Ink {
 
 // Whether there is ink at (x, y); outside the plane there is none.
 fn is_set<P: Plane>(plane: &P, x: u16, y: u16) -> bool
-    ensures { result ≡ row (picture plane.now) y x }
+    ensures { result ≡ row (P.picture plane.now) y x }
 {
     match plane.ask(x as usize, y as usize) {
         Ok(bit) => bit,
@@ -41,7 +41,7 @@ fn is_set<P: Plane>(plane: &P, x: u16, y: u16) -> bool
 
 // The ink of the first `width` places of row y, each looked at once.
 pub(crate) fn ink_of_row<P: Plane>(plane: &P, width: u16, y: u16) -> Ink
-    ensures { result ≡ inked (row (picture plane.now) y) width }
+    ensures { result ≡ inked (row (P.picture plane.now) y) width }
 {
     let mut ink = Ink {
         first: 0,
@@ -58,7 +58,7 @@ pub(crate) fn ink_of_row<P: Plane>(plane: &P, width: u16, y: u16) -> Ink
 
 // Whether the row has ink; it is looked at no further than its first.
 fn has_ink<P: Plane>(plane: &P, width: u16, y: u16) -> bool
-    ensures { result ≡ nat_lt 0 (how_many (row (picture plane.now) y) width) }
+    ensures { result ≡ nat_lt 0 (how_many (row (P.picture plane.now) y) width) }
 {
     for x in 0..width {
         if is_set(plane, x, y) {
@@ -70,7 +70,7 @@ fn has_ink<P: Plane>(plane: &P, width: u16, y: u16) -> bool
 
 // How many rows have ink.
 pub(crate) fn inked_rows<P: Plane>(plane: &P, size: Size) -> u16
-    ensures { result ≡ rows_with_ink (picture plane.now) size }
+    ensures { result ≡ rows_with_ink (P.picture plane.now) size }
 {
     let mut rows = 0;
     for y in 0..size.height {

@@ -54,9 +54,9 @@ fn put(line: &Line, buffer: &mut [u8], at: usize) -> usize
 
 // Writes the lines of the rows with ink, top first.
 fn put_rows<P: Plane>(plane: &P, size: Size, buffer: &mut [u8]) -> usize
-    requires { length (rows_of_lem (picture plane.now) size.width size.height) ≤ length buffer.old }
-    ensures end { result ≡ length (rows_of_lem (picture plane.now) size.width size.height) }
-    ensures text { take result buffer.new ≡ rows_of_lem (picture plane.now) size.width size.height }
+    requires { length (rows_of_lem (P.picture plane.now) size.width size.height) ≤ length buffer.old }
+    ensures end { result ≡ length (rows_of_lem (P.picture plane.now) size.width size.height) }
+    ensures text { take result buffer.new ≡ rows_of_lem (P.picture plane.now) size.width size.height }
     ensures rest { drop result buffer.new ≡ drop result buffer.old }
 {
     let mut at = 0;
@@ -71,7 +71,7 @@ fn put_rows<P: Plane>(plane: &P, size: Size, buffer: &mut [u8]) -> usize
 
 // Whether the listing fits. The rows are counted only where the buffer might not hold one line for each.
 fn has_room<P: Plane>(plane: &P, size: Size, room: usize) -> bool
-    ensures { result ≡ nat_le (length (rows_of_lem (picture plane.now) size.width size.height) + 25) room }
+    ensures { result ≡ nat_le (length (rows_of_lem (P.picture plane.now) size.width size.height) + 25) room }
 {
     LENGTH * (size.height as usize + 1) <= room
         || LENGTH * (inked_rows(plane, size) as usize + 1) <= room
@@ -83,8 +83,8 @@ pub fn listing<P: Plane>(
     plane: &P,
     buffer: &mut [u8],
 ) -> Result<usize, Refusal>
-    ensures value { result ≡ answer terminal.now (picture plane.now) (length buffer.old) }
-    ensures buffer { buffer.new ≡ written terminal.now (picture plane.now) buffer.old }
+    ensures value { result ≡ answer terminal.now (P.picture plane.now) (length buffer.old) }
+    ensures buffer { buffer.new ≡ written terminal.now (P.picture plane.now) buffer.old }
     ensures within { IfOk result (λ n. n ≤ length buffer.old) }
     ensures bounded { Bounded }
 {

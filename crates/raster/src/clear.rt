@@ -9,7 +9,7 @@ use plane::Plane;
 
 // Clears row v of the region.
 fn clear_row<P: Plane>(plane: &mut P, region: Region, v: usize)
-    ensures { picture plane.new ≡ without (row_of region v) (picture plane.old) }
+    ensures { P.picture plane.new ≡ without (row_of region v) (P.picture plane.old) }
 {
     let left = region.left as usize;
     plane.fill_run(v, left, left + region.width as usize, false);
@@ -17,7 +17,7 @@ fn clear_row<P: Plane>(plane: &mut P, region: Region, v: usize)
 
 /// Clears the region, where it lies in the plane.
 pub fn clear<P: Plane>(plane: &mut P, region: Region)
-    ensures picture { picture plane.new ≡ cleared region (picture plane.old) }
+    ensures picture { P.picture plane.new ≡ cleared region (P.picture plane.old) }
     ensures confined { Confined (inside region) (cleared region) }
 {
     let bottom = region.bottom as usize;

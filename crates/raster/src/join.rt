@@ -10,7 +10,7 @@ use plane::Plane;
 
 // Joins the source to the place (u, v), if it lies in the plane.
 fn draw<P: Plane>(plane: &mut P, operation: Operation, source: bool, u: usize, v: usize)
-    ensures { picture plane.new ≡ drawn operation source u v (picture plane.old) }
+    ensures { P.picture plane.new ≡ drawn operation source u v (P.picture plane.old) }
 {
     if let Ok(old) = plane.ask(u, v) {
         let _ = plane.set(u, v, operation.combine(source, old));
@@ -19,7 +19,7 @@ fn draw<P: Plane>(plane: &mut P, operation: Operation, source: bool, u: usize, v
 
 /// Joins a source bit to a point by an operation, if the point lies in the region.
 pub fn join<P: Plane>(plane: &mut P, region: Region, operation: Operation, source: bool, at: Point)
-    ensures picture { picture plane.new ≡ joined region operation source at (picture plane.old) }
+    ensures picture { P.picture plane.new ≡ joined region operation source at (P.picture plane.old) }
     ensures confined { Confined (inside region) (joined region operation source at) }
 {
     let Some(u) = place(region.left, region.width, at.x) else {

@@ -49,7 +49,7 @@ pub fn line<P: Plane>(
     to: Point,
     last: bool,
 )
-    ensures picture { picture plane.new ≡ lined region operation from to last (picture plane.old) }
+    ensures picture { P.picture plane.new ≡ lined region operation from to last (P.picture plane.old) }
     ensures confined { Confined (inside region) (lined region operation from to last) }
     ensures composes { Composes }
     ensures worked { Worked }

@@ -8,7 +8,7 @@ use plane::Plane;
 impl Terminal {
     /// Whether the plane has the terminal's size.
     pub fn matches<P: Plane>(&self, plane: &P) -> bool
-        ensures { result ≡ same_size self.now (picture plane.now) }
+        ensures { result ≡ same_size self.now (P.picture plane.now) }
     {
         let size = self.setup.size;
         plane.width() == size.width as usize && plane.height() == size.height as usize

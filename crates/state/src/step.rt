@@ -12,7 +12,7 @@ use raster::line::line;
 impl Terminal {
     fn control<P: Plane>(&mut self, plane: &mut P, control: Control)
         ensures state { self.new ≡ state_after self.old (Action.Control control) }
-        ensures picture { picture plane.new ≡ picture_after self.old (Action.Control control) (picture plane.old) }
+        ensures picture { P.picture plane.new ≡ picture_after self.old (Action.Control control) (P.picture plane.old) }
     {
         match control {
             Control::Lock => self.locked = true,
@@ -28,7 +28,7 @@ impl Terminal {
     // Draws, or moves: the position is then where the drawing went.
     fn draw<P: Plane>(&mut self, plane: &mut P, drawing: Drawing)
         ensures state { self.new ≡ state_after self.old (Action.Draw drawing) }
-        ensures picture { picture plane.new ≡ picture_after self.old (Action.Draw drawing) (picture plane.old) }
+        ensures picture { P.picture plane.new ≡ picture_after self.old (Action.Draw drawing) (P.picture plane.old) }
     {
         match drawing {
             Drawing::Move { to } => self.window.position = to,
@@ -55,7 +55,7 @@ impl Terminal {
     /// Does what was called for, but for the waiting strokes and the reply.
     pub fn act<P: Plane>(&mut self, plane: &mut P, action: Action)
         ensures state { self.new ≡ state_after self.old action }
-        ensures picture { picture plane.new ≡ picture_after self.old action (picture plane.old) }
+        ensures picture { P.picture plane.new ≡ picture_after self.old action (P.picture plane.old) }
     {
         match action {
             Action::Nothing | Action::Key { .. } => {}

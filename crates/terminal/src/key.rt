@@ -45,7 +45,7 @@ pub fn key<P: Plane, L: Line>(
     strokes: &mut Queue<'_, Stroke>,
     number: u8,
 ) -> Result<(), Refusal>
-    ensures keyed { Keyed (set_of terminal.old face.now (picture plane.old) (waiting strokes.old) (places strokes.old) (carried line.old)) number result (set_of terminal.new face.now (picture plane.new) (waiting strokes.new) (places strokes.new) (carried line.new)) }
+    ensures keyed { Keyed (set_of terminal.old face.now (P.picture plane.old) (waiting strokes.old) (places strokes.old) (L.carried line.old)) number result (set_of terminal.new face.now (P.picture plane.new) (waiting strokes.new) (places strokes.new) (L.carried line.new)) }
     ensures plane { is_err result ≡ true → plane.new ≡ plane.old }
     ensures line { is_err result ≡ true → line.new ≡ line.old }
     ensures strokes { is_err result ≡ true → strokes.new ≡ strokes.old }

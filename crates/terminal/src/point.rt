@@ -23,7 +23,7 @@ pub fn point<P: Plane, L: Line>(
     x: usize,
     y: usize,
 ) -> Result<(), Refusal>
-    ensures pointed { Pointed (set_of terminal.old face.now (picture plane.old) (waiting strokes.old) (places strokes.old) (carried line.old)) x y result (set_of terminal.new face.now (picture plane.new) (waiting strokes.new) (places strokes.new) (carried line.new)) }
+    ensures pointed { Pointed (set_of terminal.old face.now (P.picture plane.old) (waiting strokes.old) (places strokes.old) (L.carried line.old)) x y result (set_of terminal.new face.now (P.picture plane.new) (waiting strokes.new) (places strokes.new) (L.carried line.new)) }
     ensures plane { plane.new ≡ plane.old }
     ensures line { line.new ≡ line.old }
     ensures strokes { strokes.new ≡ strokes.old }

@@ -18,7 +18,7 @@ pub(crate) fn refusal_of<P: Plane, L: Line>(
     line: &L,
     strokes: &Queue<'_, Stroke>,
 ) -> Option<Refusal>
-    ensures { result ≡ refusal (set_of terminal.now face.now (picture plane.now) (waiting strokes.now) (places strokes.now) (carried line.now)) }
+    ensures { result ≡ refusal (set_of terminal.now face.now (P.picture plane.now) (waiting strokes.now) (places strokes.now) (L.carried line.now)) }
 {
     if !terminal.matches(plane) {
         return Some(Refusal::PlaneSize);

@@ -50,7 +50,7 @@ pub(crate) fn work<P: Plane, L: Line>(
 ) -> Result<(), Shortage>
     requires few { length (waiting strokes.old) ≤ 16 }
     requires place { Holds reading.action (length (waiting strokes.old)) (places strokes.old) }
-    ensures worked { Worked (set_of terminal.old [] (picture plane.old) (waiting strokes.old) (places strokes.old) (carried line.old)) reading result (set_of terminal.new [] (picture plane.new) (waiting strokes.new) (places strokes.new) (carried line.new)) }
+    ensures worked { Worked (set_of terminal.old [] (P.picture plane.old) (waiting strokes.old) (places strokes.old) (L.carried line.old)) reading result (set_of terminal.new [] (P.picture plane.new) (waiting strokes.new) (places strokes.new) (L.carried line.new)) }
     ensures plane { is_err result ≡ true → plane.new ≡ plane.old }
     ensures strokes { is_err result ≡ true → strokes.new ≡ strokes.old }
     ensures line { is_err result ≡ true → line.new ≡ line.old }
