@@ -12,7 +12,7 @@ import re
 
 PARTS = re.compile(r"(?<![\w'-])([A-Za-z_][\w']*(?:[-+][\w']+)+)(?![\w'-])")
 # Kinds of goals, and fields of the records that the toolchain makes.
-MADE = {"invariant_of", "in_default", "overflow_add", "overflow_sub", "overflow_mul", "overflow_cast", "overflow_shl", "overflow_shr", "overflow_neg", "type_inv", "div_zero"}
+MADE = {"in_err", "in_ok", "invariant_of", "in_default", "overflow_add", "overflow_sub", "overflow_mul", "overflow_cast", "overflow_shl", "overflow_shr", "overflow_neg", "type_inv", "div_zero"}
 IMPORTED = re.compile(r"\buse\s+[\w.]+\.\{([^}]*)\}")
 
 

@@ -9,8 +9,8 @@ pub returns : goal.returns
 returns c =
     let at = c.args.at in
     let before = c.args.buffer.now in
-    let part = c.copy-from-slice.new.self in
-    let is : part ≡ text_of c.args.self.now = c.copy-from-slice.ensures.after ∙ c.text.ensures in
+    let part = c.copy_from_slice.new.self in
+    let is : part ≡ text_of c.args.self.now = c.copy_from_slice.ensures.after ∙ c.text.ensures in
     let long : length part ≡ 25 = ap length is in
     let ends : at + 25 ≤ length before = omega arith in
     let width = at + 25 - at in
