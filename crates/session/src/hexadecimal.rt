@@ -18,7 +18,7 @@ fn pair(high: u8, low: u8) -> Option<u8> {
 /// The bytes of a word; no byte is written `-`, since a word has a length.
 pub(crate) fn bytes_of(heap: Global, word: &[u8]) -> Result<Vec<u8>, Fault> {
     let mut bytes = Vec::new(heap);
-    if word == b"-" {
+    if word == b"-".as_slice() {
         return Ok(bytes);
     }
     let mut rest = word;

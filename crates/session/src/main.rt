@@ -18,6 +18,7 @@ mod words;
 
 use fault::Fault;
 use std::io::Read;
+use std::process::ExitCode;
 
 /// All of standard input.
 fn read_input(rt: &HostRuntime) -> Result<Vec<u8>, Fault> {
@@ -26,12 +27,12 @@ fn read_input(rt: &HostRuntime) -> Result<Vec<u8>, Fault> {
     Ok(text)
 }
 
-fn main(rt: HostRuntime) -> Result<(), Fault> {
+fn main(rt: HostRuntime) -> Result<ExitCode, Fault> {
     let text = read_input(&rt)?;
     let mut script = script::Script::new(&text);
-    let answer = serve::play(&rt, &mut script);
-    if let Err(fault) = answer {
+    if let Err(fault) = serve::play(&rt, &mut script) {
         eprintln!(rt; "line {}: {fault}", script.line())?;
+        return Ok(ExitCode::FAILURE);
     }
-    answer
+    Ok(ExitCode::SUCCESS)
 }
