@@ -1,5 +1,5 @@
 -- One byte more in the buffer, and a drain that ends.
-use Rattle.std.proofs.Common.{◌≡◌, ℕ, ◌+◌, ◌<◌, ◌≤◌, min, List, [], ◌∷◌, ◌++◌, length, take, drop, set, sym, ap, ◌∙◌, arith}
+use Rattle.std.proofs.Common.{◌≡◌, ℕ, ◌+◌, ◌<◌, ◌≤◌, List, [], ◌∷◌, ◌++◌, length, take, drop, set, sym, ap, ◌∙◌, arith}
 use Rattle.std.proofs.lemmas.List.{append_assoc, length-append, length-take-le, take_more_set, drop-drop, drop-set-lt}
 use Rattle.line.specs.Transfer.{Taken, Emptied}
 use Rattle.line.specs.Wire.{Wire}

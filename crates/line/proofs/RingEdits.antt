@@ -1,5 +1,5 @@
 -- The first element of a ring, written anew.
-use Rattle.std.proofs.Common.{◌≡◌, ℕ, suc, ◌+◌, ◌-◌, ◌<◌, ◌≤◌, List, ◌∷◌, ◌++◌, length, take, drop, set, sym, refl, ap, ◌∙◌, inl, inr, arith}
+use Rattle.std.proofs.Common.{◌≡◌, ℕ, suc, ◌+◌, ◌-◌, ◌<◌, ◌≤◌, List, ◌∷◌, ◌++◌, length, take, drop, set, sym, ap, ◌∙◌, inl, inr, arith}
 use lib.Seq.{take-append-add}
 use Rattle.std.proofs.lemmas.List.{length-drop, take-append-le, take-set-le, drop-set, drop_more}
 use Rattle.std.proofs.lemmas.Bool.{cases_lt}

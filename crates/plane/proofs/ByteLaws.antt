@@ -1,16 +1,16 @@
 -- Whole bytes: their bits, and what a write to one byte of a row does to the picture.
-use Rattle.std.proofs.Common.{◌≡◌, ℕ, zero, suc, ◌+◌, ◌-◌, ◌*◌, ◌/◌, ◌%◌, ◌^◌, ◌<◌, ◌≤◌, Bool, true, false, cond, ◌&&◌, ◌||◌, eqb, ltb, leb, ◌⊎◌, List, length, get_or, set, sym, refl, ap, ◌∙◌, ap₂, inl, inr, pow-suc, one-add, arith, get_or-set_other, get_or-set_same}
+use Rattle.std.proofs.Common.{◌≡◌, ℕ, zero, suc, ◌+◌, ◌-◌, ◌*◌, ◌/◌, ◌%◌, ◌^◌, ◌<◌, ◌≤◌, Bool, false, cond, ◌&&◌, ◌||◌, eqb, ltb, leb, List, length, get_or, set, sym, refl, ap, ◌∙◌, inl, inr, pow-suc, one-add, arith, get_or-set_other, get_or-set_same}
 use lib.Bits.{bit_and, bit_or, bit_xor, and_shr, or_shr, xor_shr, and_mod, or_mod, xor_mod, xor_lt}
 use lib.Count.{ones, ones_step}
 use Rattle.std.proofs.lemmas.Nat.{mul-add-lt, shr-shr}
 use Rattle.std.proofs.lemmas.Bool.{cases_eq, cases_lt, eq-eqb, lt-ltb, le-ltb, cond-false}
 use Rattle.std.proofs.lemmas.Bool.Decides.{nat_tests}
 use Rattle.plane.specs.Bits.{bit}
-use Rattle.plane.specs.Layout.{Layout, rows, shown}
+use Rattle.plane.specs.Layout.{rows, shown}
 use Rattle.plane.specs.Run.{on_run, mapped, differ, how_many, changes}
 use Rattle.plane.proofs.CountLaws.{in_two_parts, only_these, same_number, same_bit}
 use Rattle.plane.proofs.LayoutLaws.{row_and_column}
-use Rattle.plane.proofs.RunLaws.{Done, agree}
+use Rattle.plane.proofs.RunLaws.{agree}
 
 -- two numbers below 2
 digits : (P : ℕ → ℕ → Type 0) → P 0 0 → P 0 1 → P 1 0 → P 1 1 → (a b : ℕ) → a < 2 → b < 2 → P a b

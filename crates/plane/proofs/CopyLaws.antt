@@ -1,12 +1,12 @@
 -- A run copied from another row.
-use Rattle.std.proofs.Common.{◌≡◌, ℕ, ◌+◌, ◌-◌, ◌*◌, ◌/◌, ◌%◌, ◌<◌, ◌≤◌, min, Bool, true, false, cond, ◌&&◌, ltb, leb, ◌⊎◌, List, get_or, Ok, Err, sym, refl, ap, ◌∙◌, inl, inr, arith}
+use Rattle.std.proofs.Common.{◌≡◌, ℕ, ◌+◌, ◌-◌, ◌*◌, ◌/◌, ◌%◌, ◌<◌, ◌≤◌, min, Bool, true, false, cond, ◌&&◌, ltb, leb, List, get_or, Ok, Err, sym, refl, ap, ◌∙◌, inl, inr, arith}
 use Rattle.std.proofs.lemmas.Bool.{cases_lt, cases_Bool, cond-false, cond-true, and_parts, leb-true, lt-ltb, ne_eqb}
 use Rattle.std.proofs.lemmas.Bool.Decides.{nat_tests}
 use Rattle.refusal.specs.declared.Refusal.{Refusal}
 use Rattle.plane.specs.Bits.{bit}
 use Rattle.plane.specs.Layout.{rows, shown}
 use Rattle.plane.specs.Picture.{Picture, has, asked}
-use Rattle.plane.specs.Run.{on_run, mapped, filled_run, from_row, copied_run, changes}
+use Rattle.plane.specs.Run.{on_run, mapped, filled_run, from_row, copied_run}
 use Rattle.plane.proofs.CountLaws.{no_change}
 use Rattle.plane.proofs.RunLaws.{Done, agree, was_there, was_outside}
 

@@ -1,5 +1,5 @@
 -- How the pixels of a plane lie in a memory of numbers.
-use Rattle.std.specs.Prelude.{◌≡◌, ℕ, ◌+◌, ◌-◌, ◌*◌, ◌/◌, ◌%◌, Bool, false, cond, ◌&&◌, List, length, Some, None, Option, nat_le, nat_lt, slice_index}
+use Rattle.std.specs.Prelude.{◌≡◌, ℕ, ◌+◌, ◌-◌, ◌*◌, ◌/◌, ◌%◌, false, cond, ◌&&◌, List, length, Some, None, Option, nat_le, nat_lt, slice_index}
 use Rattle.std.proofs.Common.{ap}
 use Rattle.plane.specs.Bits.{bit}
 use Rattle.plane.specs.Memory.{fits}

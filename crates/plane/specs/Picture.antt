@@ -1,5 +1,5 @@
 -- What a plane means: a picture, with (0, 0) lower left.
-use Rattle.std.specs.Prelude.{ℕ, ◌-◌, Bool, cond, ◌&&◌, Ok, Err, Result, ◌==◌, nat_lt, refl}
+use Rattle.std.specs.Prelude.{ℕ, ◌-◌, Bool, cond, ◌&&◌, Ok, Result, ◌==◌, nat_lt, refl}
 use Rattle.refusal.specs.declared.Refusal.{Refusal}
 use Rattle.refusal.specs.declared.Refusal.TheVariants.{Outside}
 use Rattle.refusal.specs.Number.{refused}

@@ -1,9 +1,9 @@
 -- Counting along a row.
-use Rattle.std.proofs.Common.{◌≡◌, ℕ, zero, suc, ◌+◌, ◌<◌, ◌≤◌, Bool, true, false, cond, eqb, ltb, ◌⊎◌, sym, refl, ap, ◌∙◌, inl, inr, add-zero, add-one, arith}
-use Rattle.std.proofs.lemmas.Bool.{cases_Bool, cases_eq, cases_lt, eq-eqb, ne_eqb, cond-true, cond-false, lt-ltb, le-ltb}
+use Rattle.std.proofs.Common.{◌≡◌, ℕ, zero, suc, ◌+◌, ◌<◌, ◌≤◌, Bool, true, false, cond, eqb, sym, refl, ap, ◌∙◌, inl, inr, add-zero, add-one, arith}
+use Rattle.std.proofs.lemmas.Bool.{cases_Bool, cases_eq, eq-eqb, ne_eqb}
 use Rattle.printout.specs.declared.ink.Ink.{Ink}
 use Rattle.plane.specs.Run.{how_many as count}
-use Rattle.printout.specs.Ink.{first, last, inked, one_more, Bounds, Bounded}
+use Rattle.printout.specs.Ink.{inked, one_more, Bounds, Bounded}
 
 module _ (f : ℕ → Bool) where
   pub count_set : (n : ℕ) → f n ≡ true → count f (n + 1) ≡ count f n + 1

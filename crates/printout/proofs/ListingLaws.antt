@@ -1,12 +1,12 @@
 -- The text of a listing, row by row, and how it comes into a buffer.
-use Rattle.std.proofs.Common.{◌≡◌, ℕ, zero, suc, ◌+◌, ◌-◌, ◌*◌, ◌<◌, ◌≤◌, Bool, true, false, cond, ◌&&◌, eqb, ltb, leb, ◌⊎◌, List, [], ◌∷◌, ◌++◌, length, take, drop, Ok, sym, refl, ap, ◌∙◌, ap₂, inl, inr, append_assoc, arith, length-append, take-append-drop, length-take-le, drop-drop}
-use Rattle.std.proofs.lemmas.Bool.{cases_Bool, cases_eq, eq-eqb, ne_eqb, cond-true, cond-false, lt-ltb, le-ltb, and_from, and_left, and_right}
+use Rattle.std.proofs.Common.{◌≡◌, ℕ, zero, suc, ◌+◌, ◌-◌, ◌*◌, ◌<◌, ◌≤◌, true, false, cond, eqb, ltb, leb, List, [], ◌++◌, length, take, drop, Ok, sym, refl, ap, ◌∙◌, ap₂, inl, inr, append_assoc, arith, length-append, take-append-drop, length-take-le, drop-drop}
+use Rattle.std.proofs.lemmas.Bool.{cases_eq, eq-eqb, ne_eqb, cond-true, cond-false, lt-ltb, le-ltb, and_from, and_left, and_right}
 use Rattle.refusal.specs.declared.Refusal.TheVariants.{PlaneSize, Buffer}
 use Rattle.refusal.specs.Number.{refused}
 use Rattle.columns.specs.Line.{text_of}
 use Rattle.plane.specs.Picture.{Picture}
 use Rattle.printout.specs.declared.ink.Ink.{Ink}
-use Rattle.printout.specs.Ink.{row, inked, inked_rows}
+use Rattle.printout.specs.Ink.{row, inked}
 use Rattle.plane.specs.Run.{how_many as count}
 use Rattle.state.specs.declared.terminal.Terminal.{Terminal}
 use Rattle.state.specs.Size.{same_size}

@@ -1,5 +1,5 @@
 -- The ink of a row of pixels.
-use Rattle.std.specs.Prelude.{◌≡◌, ℕ, zero, suc, ◌+◌, ◌<◌, ◌≤◌, Bool, true, false, cond, ◌==◌, nat_lt}
+use Rattle.std.specs.Prelude.{◌≡◌, ℕ, zero, suc, ◌+◌, ◌<◌, ◌≤◌, Bool, true, cond, ◌==◌, nat_lt}
 use Rattle.plane.specs.Picture.{Picture}
 use Rattle.plane.specs.Run.{how_many as count}
 use Rattle.state.specs.declared.setup.Size.{Size}

@@ -1,5 +1,5 @@
 -- The listing: a line for each row with ink, top first, and a last line.
-use Rattle.std.specs.Prelude.{ℕ, zero, suc, Bool, cond, ◌&&◌, List, [], ◌∷◌, ◌++◌, length, drop, Ok, Result, ◌==◌, nat_le, refl}
+use Rattle.std.specs.Prelude.{ℕ, zero, suc, cond, ◌&&◌, List, [], ◌++◌, length, drop, Ok, Result, ◌==◌, nat_le, refl}
 use Rattle.columns.specs.declared.line.Line.{Line}
 use Rattle.columns.specs.Line.{text_of, small}
 use Rattle.columns.specs.Number.{signed, unsigned}

@@ -1,7 +1,7 @@
 -- What paints in a region is confined to it, and so is one such drawing after another.
-use Rattle.std.proofs.Common.{◌≡◌, ℕ, zero, suc, ◌+◌, Bool, true, cond, ℤ, refl, ◌∙◌}
+use Rattle.std.proofs.Common.{ℕ, zero, suc, ◌+◌, Bool, true, cond, ℤ, refl, ◌∙◌}
 use Rattle.std.proofs.lemmas.Bool.{cond-false, and_right}
-use Rattle.plane.specs.Picture.{Picture, has}
+use Rattle.plane.specs.Picture.{has}
 use Rattle.raster.specs.declared.operation.Operation.{Operation}
 use Rattle.raster.specs.declared.region.Region.{Region}
 use Rattle.raster.specs.declared.region.Point.{Point}

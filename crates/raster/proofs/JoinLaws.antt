@@ -1,12 +1,12 @@
 -- A point of a region by the place that it has in the plane.
-use Rattle.std.proofs.Common.{◌≡◌, ℕ, Bool, true, false, cond, ◌&&◌, eqb, ℤ, sym, refl, ◌∙◌, arith}
+use Rattle.std.proofs.Common.{◌≡◌, ℕ, Bool, false, cond, ◌&&◌, eqb, sym, refl, ◌∙◌, arith}
 use Rattle.std.proofs.lemmas.Bool.Decides.{nat_tests}
 use Rattle.plane.specs.Picture.{Picture, has, with_bits}
 use Rattle.raster.specs.declared.operation.Operation.{Operation}
 use Rattle.raster.specs.declared.region.Region.{Region}
 use Rattle.raster.specs.declared.region.Point.{Point}
 use Rattle.raster.specs.Operation.{applied}
-use Rattle.raster.specs.Region.{among, position, same, painted}
+use Rattle.raster.specs.Region.{among, position, same}
 use Rattle.raster.specs.Join.{drawn, joined}
 use Rattle.plane.proofs.RunLaws.{agree}
 

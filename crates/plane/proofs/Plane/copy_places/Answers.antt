@@ -1,6 +1,6 @@
-use Rattle.std.proofs.Common.{◌≡◌, ◌+◌, ◌-◌, ◌≤◌, sym, refl, ap, ◌∙◌, add-zero, arith}
+use Rattle.std.proofs.Common.{◌≡◌, ◌+◌, sym, ◌∙◌, add-zero, arith}
 use Rattle.std.proofs.lemmas.Bool.{cond-true, eq-eqb}
-use Rattle.plane.specs.Run.{from_row, mapped}
+use Rattle.plane.specs.Run.{from_row}
 use Rattle.plane.proofs.CopyLaws.{one_copied, none_copied, copy_cut, copied_apart}
 use Rattle.plane.proofs.CountLaws.{no_change, changes_most}
 use Rattle.plane.proofs.RunLaws.{Done, not_begun, one_longer}

@@ -3,7 +3,7 @@ use Rattle.plane.specs.Layout.{rows, shown}
 use Rattle.plane.specs.Run.{mapped, from_row, changes}
 use Rattle.plane.proofs.CopyLaws.{rest}
 use Rattle.plane.proofs.CountLaws.{no_change, changes_most}
-use Rattle.plane.proofs.RunLaws.{Done, not_begun, longer}
+use Rattle.plane.proofs.RunLaws.{not_begun, longer}
 use Rattle.plane.proofs.bytewise.copy_in_row.Goals as goal
 
 pub loop-k-init : goal.loop-k-init

@@ -2,7 +2,7 @@ use Rattle.std.proofs.Common.{◌≡◌, ℕ, ◌+◌, ◌*◌, ◌/◌, Bool, c
 use Rattle.plane.specs.Layout.{rows, shown}
 use Rattle.plane.specs.Run.{mapped, changes}
 use Rattle.plane.proofs.CountLaws.{no_change, changes_most}
-use Rattle.plane.proofs.RunLaws.{Done, not_begun, longer}
+use Rattle.plane.proofs.RunLaws.{not_begun, longer}
 use Rattle.plane.proofs.bytewise.join_in_row.Goals as goal
 
 pub loop-k-init : goal.loop-k-init

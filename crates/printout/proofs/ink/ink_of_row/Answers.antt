@@ -1,4 +1,4 @@
-use Rattle.std.proofs.Common.{◌≡◌, ap, ◌∙◌, arith}
+use Rattle.std.proofs.Common.{ap, ◌∙◌, arith}
 use Rattle.printout.specs.declared.ink.Ink.{Ink}
 use Rattle.printout.specs.Ink.{row}
 use Rattle.printout.proofs.InkLaws.{count_le, ink_more, ink_same}

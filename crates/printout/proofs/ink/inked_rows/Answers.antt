@@ -1,4 +1,4 @@
-use Rattle.std.proofs.Common.{◌≡◌, ℕ, ◌+◌, Bool, ltb, sym, ap, ◌∙◌, arith}
+use Rattle.std.proofs.Common.{ℕ, ◌+◌, Bool, ltb, sym, ap, ◌∙◌, arith}
 use Rattle.printout.specs.Ink.{row}
 use Rattle.plane.specs.Run.{how_many as count}
 use Rattle.printout.proofs.InkLaws.{count_le, count_set, count_unset}

@@ -1,4 +1,4 @@
-use Rattle.std.proofs.Common.{◌≡◌, ◌≤◌, [], length, take, drop, sym, refl, ap, ◌∙◌, append-nil, arith}
+use Rattle.std.proofs.Common.{◌≡◌, [], length, sym, ap, ◌∙◌, append-nil, arith}
 use Rattle.columns.specs.Line.{text_of}
 use Rattle.printout.specs.Listing.{rows}
 use Rattle.printout.proofs.ListingLaws.{row_shown, row_blank, row_fits, row_written, so_far, past}

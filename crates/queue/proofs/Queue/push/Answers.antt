@@ -1,4 +1,4 @@
-use Rattle.std.proofs.Common.{◌≡◌, ◌+◌, [], ◌∷◌, ◌++◌, set, sym, refl, ap, ◌∙◌, arith}
+use Rattle.std.proofs.Common.{◌+◌, set, sym, refl, ap, ◌∙◌, arith}
 use borrow.Author.Tests.{lt-true, le-false, clash}
 use Rattle.std.proofs.lemmas.List.{length-set}
 use Rattle.queue.specs.Ring.{ring}

@@ -1,5 +1,5 @@
 use Rattle.std.proofs.Common.{◌≡◌, ◌+◌, cond, refl, ◌∙◌, arith, w16, SFits, rules}
-use Rattle.std.proofs.lemmas.Int.{ints, to_z-of_z}
+use Rattle.std.proofs.lemmas.Int.{to_z-of_z}
 use Rattle.raster.specs.Line.{point}
 use Rattle.raster.proofs.Confinement.{composes, confined_lined}
 use Rattle.raster.proofs.LineLaws.{dot_more, point_made, line_all}

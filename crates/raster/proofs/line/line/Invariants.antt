@@ -1,5 +1,5 @@
 use Rattle.std.proofs.Common.{◌≡◌}
-use Rattle.raster.specs.Line.{toward, point, dotted}
+use Rattle.raster.specs.Line.{point, dotted}
 use Rattle.raster.proofs.line.line.Given as goal
 
 abbrev pub invariant-loop-i : goal.invariant-loop-i

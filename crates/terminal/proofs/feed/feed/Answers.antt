@@ -1,13 +1,12 @@
-use Rattle.std.proofs.Common.{◌≡◌, ℕ, ◌≤◌, [], get_or, take, sym, refl, ap, ◌∙◌, subst, arith}
+use Rattle.std.proofs.Common.{get_or, sym, refl, ap, ◌∙◌, subst, arith}
 use Rattle.std.proofs.lemmas.List.{take_all}
 use Rattle.std.proofs.lemmas.Bool.{false≢true}
-use Rattle.keyboard.specs.declared.stroke.Stroke.{Stroke}
 use Rattle.queue.specs.Waiting.{waiting, places}
 use Rattle.queue.proofs.RingLaws.{waiting_fits}
 use Rattle.runs.specs.Calls.{Does, Works}
-use Rattle.runs.specs.Set.{Set, set_of}
+use Rattle.runs.specs.Set.{set_of}
 use Rattle.runs.proofs.Sizes.{admitted}
-use Rattle.runs.proofs.Steps.{SoFar, so_far_none, so_far_more, byte_never_holds}
+use Rattle.runs.proofs.Steps.{so_far_none, so_far_more, byte_never_holds}
 use Rattle.state.specs.declared.reading.Reading.{Reading}
 use Rattle.terminal.proofs.WorkLaws.{needs_no_place, with_face}
 use Rattle.terminal.proofs.feed.feed.Goals as goal

@@ -1,4 +1,4 @@
-use Rattle.std.proofs.Common.{◌≤◌, length, sym, ap, subst, arith}
+use Rattle.std.proofs.Common.{length, sym, subst, arith}
 use Rattle.queue.specs.Waiting.{waiting, places}
 use Rattle.queue.proofs.RingLaws.{waiting_fits}
 use Rattle.runs.specs.Set.{set_of}

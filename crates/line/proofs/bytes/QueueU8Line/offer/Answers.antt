@@ -1,5 +1,5 @@
 -- The room suffices, so no push is refused.
-use Rattle.std.proofs.Common.{◌≡◌, ◌+◌, ◌<◌, true, [], ◌∷◌, ◌++◌, length, get_or, take, sym, ap, ◌∙◌, arith, lt-ltb}
+use Rattle.std.proofs.Common.{◌≡◌, ◌<◌, true, [], ◌∷◌, ◌++◌, length, get_or, take, sym, ap, ◌∙◌, arith, lt-ltb}
 use borrow.Author.Tests.{clash}
 use Rattle.std.proofs.lemmas.List.{append_assoc, length-append, length-take-le, take_more, take_all}
 use Rattle.std.proofs.lemmas.Bool.{cond-true}

@@ -1,4 +1,4 @@
-use Rattle.std.proofs.Common.{◌≡◌, ◌+◌, length, set, sym, refl, ap, ◌∙◌, arith}
+use Rattle.std.proofs.Common.{◌+◌, set, sym, refl, ap, ◌∙◌, arith}
 use Rattle.queue.specs.Ring.{ring, place}
 use Rattle.queue.proofs.RingLaws.{ring_push}
 use Rattle.line.specs.PacketWire.{in_use}

@@ -1,4 +1,4 @@
-use Rattle.std.proofs.Common.{min, ◌++◌, ap, ◌∙◌, ap₂, arith}
+use Rattle.std.proofs.Common.{min, ◌++◌, ◌∙◌, ap₂, arith}
 use Rattle.state.specs.Reply.{coordinates, ending}
 use Rattle.terminal.specs.Reply.{content}
 use Rattle.terminal.proofs.ReplyLaws.{parts}

@@ -1,5 +1,5 @@
 -- Each turn appends one packet, and with it the next bytes of the offer.
-use Rattle.std.proofs.Common.{◌≡◌, ◌+◌, ◌-◌, ◌*◌, ◌<◌, ◌≤◌, ◌++◌, length, take, drop, sym, refl, ap, ◌∙◌, arith, take-add}
+use Rattle.std.proofs.Common.{◌≡◌, ◌++◌, take, drop, sym, refl, ap, ◌∙◌, arith, take-add}
 use borrow.Author.Tests.{clash}
 use Rattle.std.proofs.lemmas.List.{append_assoc, take_all}
 use Rattle.line.specs.Content.{content, contents}
