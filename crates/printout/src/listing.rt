@@ -2,7 +2,7 @@
 ghost use Rattle.std.specs.Prelude.{◌≡◌, ◌+◌, ◌≤◌, ◌++◌, length, take, drop, IfOk, nat_le};
 ghost use Rattle.columns.specs.Line.{text_of};
 ghost use Rattle.printout.specs.Ink.{Bounded};
-ghost use Rattle.printout.specs.Listing.{row_line as line_of_ink, rows as rows_of_lem, last_line as closing, answer, written};
+ghost use Rattle.printout.specs.Listing.{row_line as line_of_ink, rows as rows_of, last_line as closing, answer, written};
 
 use crate::ink::{Ink, ink_of_row, inked_rows};
 use columns::line::{LENGTH, Line};
@@ -54,9 +54,9 @@ fn put(line: &Line, buffer: &mut [u8], at: usize) -> usize
 
 // Writes the lines of the rows with ink, top first.
 fn put_rows<P: Plane>(plane: &P, size: Size, buffer: &mut [u8]) -> usize
-    requires { length (rows_of_lem (P.picture plane.now) size.width size.height) ≤ length buffer.old }
-    ensures end { result ≡ length (rows_of_lem (P.picture plane.now) size.width size.height) }
-    ensures text { take result buffer.new ≡ rows_of_lem (P.picture plane.now) size.width size.height }
+    requires { length (rows_of (P.picture plane.now) size.width size.height) ≤ length buffer.old }
+    ensures end { result ≡ length (rows_of (P.picture plane.now) size.width size.height) }
+    ensures text { take result buffer.new ≡ rows_of (P.picture plane.now) size.width size.height }
     ensures rest { drop result buffer.new ≡ drop result buffer.old }
 {
     let mut at = 0;
@@ -71,7 +71,7 @@ fn put_rows<P: Plane>(plane: &P, size: Size, buffer: &mut [u8]) -> usize
 
 // Whether the listing fits. The rows are counted only where the buffer might not hold one line for each.
 fn has_room<P: Plane>(plane: &P, size: Size, room: usize) -> bool
-    ensures { result ≡ nat_le (length (rows_of_lem (P.picture plane.now) size.width size.height) + 25) room }
+    ensures { result ≡ nat_le (length (rows_of (P.picture plane.now) size.width size.height) + 25) room }
 {
     LENGTH * (size.height as usize + 1) <= room
         || LENGTH * (inked_rows(plane, size) as usize + 1) <= room

@@ -1,6 +1,6 @@
 //! A host byte, a stroke or a place read, before anything has changed.
 ghost use Rattle.std.specs.Prelude.{◌≡◌};
-ghost use Rattle.state.specs.Reading.{read as read_by_lem, in_gin, struck};
+ghost use Rattle.state.specs.Reading.{read as read_by, in_gin, struck};
 
 use crate::action::{Action, Control, GinAction, KeyAction};
 use crate::terminal::{Gin, Terminal};
@@ -29,7 +29,7 @@ fn gin_action(begun: bool, byte: u8) -> GinAction
 impl Terminal {
     /// Reads a host byte on a copy of the parser.
     pub fn read(&self, byte: u8) -> Reading
-        ensures { result ≡ read_by_lem self.now byte }
+        ensures { result ≡ read_by self.now byte }
     {
         let mut parser = self.parser;
         let action = match (self.gin, byte) {

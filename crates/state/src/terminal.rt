@@ -1,6 +1,6 @@
 //! The state of a terminal.
 ghost use Rattle.std.specs.Prelude.{◌≡◌};
-ghost use Rattle.state.specs.Terminal.{new as fresh, renewed, home as Home_of};
+ghost use Rattle.state.specs.Terminal.{new as fresh, renewed, home as home_of};
 
 use crate::setup::Setup;
 use crate::window::{Pen, Window};
@@ -48,7 +48,7 @@ pub struct Terminal {
 
 // The home position: the cell at the top left of a region. No height is cut, since heights end at 1,024.
 fn home(height: u16) -> Point
-    ensures { result ≡ Home_of height }
+    ensures { result ≡ home_of height }
 {
     Point {
         x: 0,
