@@ -1,4 +1,6 @@
 pub mod ClearLaws
 pub mod Confinement
+pub mod FillLaws
 pub mod JoinLaws
 pub mod LineLaws
+pub mod PaintLaws

@@ -1,7 +1,9 @@
 pub mod Cases
 pub mod Clear
 pub mod Confined
+pub mod Fill
 pub mod Join
 pub mod Line
 pub mod Operation
+pub mod Rectangle
 pub mod Region

@@ -2,7 +2,9 @@
 #![tactic(auto)]
 
 pub mod clear;
+pub mod fill;
 pub mod join;
 pub mod line;
 pub mod operation;
+pub mod rectangle;
 pub mod region;
