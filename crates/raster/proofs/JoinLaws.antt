@@ -10,7 +10,7 @@ use Rattle.raster.specs.Region.{among, position, same}
 use Rattle.raster.specs.Join.{drawn, joined}
 use Rattle.plane.proofs.RunLaws.{agree}
 
-regroup : (h i j e f F d : Bool) → cond (h && (i && j)) (cond (e && f) F d) d ≡ cond (h && ((i && e) && (j && f))) F d
+pub regroup : (h i j e f F d : Bool) → cond (h && (i && j)) (cond (e && f) F d) d ≡ cond (h && ((i && e) && (j && f))) F d
 regroup h i j e f F d = grind arith
 
 module _ (p : Picture) (r : Region) (o : Operation) (s : Bool) (t : Point) where
