@@ -1,4 +1,3 @@
-pub mod ClearLaws
 pub mod Confinement
 pub mod FillLaws
 pub mod JoinLaws

@@ -6,10 +6,15 @@ use Rattle.raster.specs.declared.operation.Operation.TheVariants.{Clear as clear
 use Rattle.raster.specs.Operation.{applied}
 use Rattle.raster.specs.declared.region.Region.{Region}
 use Rattle.raster.specs.declared.rectangle.Rectangle.{Rectangle}
-use Rattle.raster.specs.declared.rectangle.Places.{Places}
+use Rattle.raster.specs.declared.axis.Axis.{Axis}
+use Rattle.raster.specs.declared.axis.Places.{Places}
 use Rattle.raster.specs.Clear.{cleared}
 use Rattle.raster.specs.Rectangle.{holds}
 use Rattle.raster.specs.Region.{among, painted}
+
+-- all places of an axis
+abbrev pub all_of : Axis → Places
+all_of a = record { start = a.low; count = a.size }
 
 -- the places of the columns c and the rows w
 abbrev pub covered : Operation → Places → Places → Picture → Picture

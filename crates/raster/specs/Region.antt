@@ -1,7 +1,15 @@
 -- Places of a plane, and coordinates counted from the lower left of a region in it.
 use Rattle.std.specs.Prelude.{ℕ, ◌+◌, Bool, false, cond, ◌&&◌, ℤ, pos, ◌-ℤ◌, Some, None, Option, ◌==◌, int_le, nat_le, nat_lt}
 use Rattle.plane.specs.Picture.{Picture, has, with_bits}
+use Rattle.raster.specs.declared.axis.Axis.{Axis}
 use Rattle.raster.specs.declared.region.Region.{Region}
+
+-- the axes of a region
+abbrev pub columns_of : Region → Axis
+columns_of r = record { low = r.left; size = r.width }
+
+abbrev pub rows_of : Region → Axis
+rows_of r = record { low = r.bottom; size = r.height }
 
 -- whether u is one of the n places from a on
 abbrev pub among : ℕ → ℕ → ℕ → Bool

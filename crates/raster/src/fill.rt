@@ -4,9 +4,10 @@ ghost use Rattle.raster.specs.Region.{inside};
 ghost use Rattle.raster.specs.Confined.{Confined};
 ghost use Rattle.raster.specs.Fill.{covered, filled, flooded, Clears};
 
+use crate::axis::Places;
+use crate::brush::Brush;
 use crate::operation::Operation;
-use crate::rectangle::{Places, Rectangle, span};
-use crate::region::Region;
+use crate::rectangle::Rectangle;
 use plane::Plane;
 
 // Joins source 1 to the places of the plane in these columns and rows.
@@ -22,39 +23,27 @@ fn cover<P: Plane>(plane: &mut P, operation: Operation, columns: Places, rows: P
     }
 }
 
-/// Joins source 1 to the pixels of the rectangle that lie in the region. It visits no other place.
-pub fn fill<P: Plane>(plane: &mut P, region: Region, operation: Operation, rectangle: Rectangle)
-    ensures picture { P.picture plane.new ≡ filled region operation rectangle (P.picture plane.old) }
-    ensures confined { Confined (inside region) (filled region operation rectangle) }
-{
-    let columns = span(
-        region.left,
-        region.width,
-        rectangle.corner.x,
-        rectangle.width,
-    );
-    let rows = span(
-        region.bottom,
-        region.height,
-        rectangle.corner.y,
-        rectangle.height,
-    );
-    cover(plane, operation, columns, rows);
-}
+impl Brush {
+    /// Joins source 1 to the pixels of the rectangle that lie in the region. It visits no other place.
+    pub fn fill<P: Plane>(self, plane: &mut P, rectangle: Rectangle)
+        ensures picture { P.picture plane.new ≡ filled self.region self.operation rectangle (P.picture plane.old) }
+        ensures confined { Confined (inside self.region) (filled self.region self.operation rectangle) }
+    {
+        let columns = self.region.columns();
+        let rows = self.region.rows();
+        let columns = columns.span(rectangle.corner.x, rectangle.width);
+        let rows = rows.span(rectangle.corner.y, rectangle.height);
+        cover(plane, self.operation, columns, rows);
+    }
 
-/// Joins source 1 to every pixel of the region: with the operation `Clear` they all become 0.
-pub fn flood<P: Plane>(plane: &mut P, region: Region, operation: Operation)
-    ensures picture { P.picture plane.new ≡ flooded region operation (P.picture plane.old) }
-    ensures clears { Clears }
-    ensures confined { Confined (inside region) (flooded region operation) }
-{
-    let columns = Places {
-        start: region.left as u32,
-        count: region.width as u32,
-    };
-    let rows = Places {
-        start: region.bottom as u32,
-        count: region.height as u32,
-    };
-    cover(plane, operation, columns, rows);
+    /// Joins source 1 to every pixel of the region: with the operation `Clear` they all become 0.
+    pub fn flood<P: Plane>(self, plane: &mut P)
+        ensures picture { P.picture plane.new ≡ flooded self.region self.operation (P.picture plane.old) }
+        ensures clears { Clears }
+        ensures confined { Confined (inside self.region) (flooded self.region self.operation) }
+    {
+        let columns = self.region.columns();
+        let rows = self.region.rows();
+        cover(plane, self.operation, columns.all(), rows.all());
+    }
 }

@@ -4,8 +4,9 @@ ghost use Rattle.raster.specs.Region.{inside};
 ghost use Rattle.raster.specs.Confined.{Confined};
 ghost use Rattle.raster.specs.Join.{drawn, joined};
 
+use crate::brush::Brush;
 use crate::operation::Operation;
-use crate::region::{Point, Region, place};
+use crate::region::Point;
 use plane::Plane;
 
 // Joins the source to the place (u, v), if it lies in the plane.
@@ -17,16 +18,18 @@ fn draw<P: Plane>(plane: &mut P, operation: Operation, source: bool, u: usize, v
     }
 }
 
-/// Joins a source bit to a point by an operation, if the point lies in the region.
-pub fn join<P: Plane>(plane: &mut P, region: Region, operation: Operation, source: bool, at: Point)
-    ensures picture { P.picture plane.new ≡ joined region operation source at (P.picture plane.old) }
-    ensures confined { Confined (inside region) (joined region operation source at) }
-{
-    let Some(u) = place(region.left, region.width, at.x) else {
-        return;
-    };
-    let Some(v) = place(region.bottom, region.height, at.y) else {
-        return;
-    };
-    draw(plane, operation, source, u, v);
+impl Brush {
+    /// Joins a source bit to a point, if the point lies in the region.
+    pub fn join<P: Plane>(self, plane: &mut P, source: bool, at: Point)
+        ensures picture { P.picture plane.new ≡ joined self.region self.operation source at (P.picture plane.old) }
+        ensures confined { Confined (inside self.region) (joined self.region self.operation source at) }
+    {
+        let Some(u) = self.region.columns().place(at.x) else {
+            return;
+        };
+        let Some(v) = self.region.rows().place(at.y) else {
+            return;
+        };
+        draw(plane, self.operation, source, u, v);
+    }
 }

@@ -5,9 +5,8 @@ ghost use Rattle.raster.specs.Confined.{Confined, Composes};
 ghost use Rattle.raster.specs.Line.{toward as along, lined};
 ghost use Rattle.raster.specs.Cases.{Worked};
 
-use crate::join::join;
-use crate::operation::Operation;
-use crate::region::{Point, Region};
+use crate::brush::Brush;
+use crate::region::Point;
 use plane::Plane;
 
 // How far point i of n lies from the start, where the end lies at a distance. The products fit: every factor is below 2^16.
@@ -40,25 +39,20 @@ fn toward(a: i16, b: i16, n: u32, i: u32) -> i16
     }
 }
 
-/// Draws the line with source 1, every point clipped to the region by itself; its last point is left out on request.
-pub fn line<P: Plane>(
-    plane: &mut P,
-    region: Region,
-    operation: Operation,
-    from: Point,
-    to: Point,
-    last: bool,
-)
-    ensures picture { P.picture plane.new ≡ lined region operation from to last (P.picture plane.old) }
-    ensures confined { Confined (inside region) (lined region operation from to last) }
-    ensures composes { Composes }
-    ensures worked { Worked }
-{
-    let n = from.x.abs_diff(to.x).max(from.y.abs_diff(to.y)) as u32;
-    let count = if last { n + 1 } else { n };
-    for i in 0..count {
-        let x = toward(from.x, to.x, n, i);
-        let y = toward(from.y, to.y, n, i);
-        join(plane, region, operation, true, Point { x, y });
+impl Brush {
+    /// Draws the line with source 1, every point clipped to the region by itself; its last point is left out on request.
+    pub fn line<P: Plane>(self, plane: &mut P, from: Point, to: Point, last: bool)
+        ensures picture { P.picture plane.new ≡ lined self.region self.operation from to last (P.picture plane.old) }
+        ensures confined { Confined (inside self.region) (lined self.region self.operation from to last) }
+        ensures composes { Composes }
+        ensures worked { Worked }
+    {
+        let n = from.x.abs_diff(to.x).max(from.y.abs_diff(to.y)) as u32;
+        let count = if last { n + 1 } else { n };
+        for i in 0..count {
+            let x = toward(from.x, to.x, n, i);
+            let y = toward(from.y, to.y, n, i);
+            self.join(plane, true, Point { x, y });
+        }
     }
 }

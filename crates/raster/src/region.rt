@@ -1,6 +1,8 @@
 //! A rectangle of a plane that drawing keeps to, and points counted from its lower left.
-ghost use Rattle.std.specs.Prelude.{◌≡◌, ℕ, ◌&&◌};
-ghost use Rattle.raster.specs.Region.{among, position, same, met};
+ghost use Rattle.std.specs.Prelude.{◌≡◌};
+ghost use Rattle.raster.specs.Region.{columns_of, rows_of};
+
+use crate::axis::Axis;
 
 /// Its place and size, counted in the plane.
 #[derive(Clone, Copy, PartialEq, Eq, Debug)]
@@ -18,13 +20,22 @@ pub struct Point {
     pub y: i16,
 }
 
-// One axis of a region of `size` places from `low` on: the place of a coordinate that lies in it.
-pub(crate) fn place(low: u16, size: u16, coordinate: i16) -> Option<usize>
-    ensures { (u : ℕ) → (among low size u && same (position low u) coordinate) ≡ met result u }
-{
-    if coordinate >= 0 && (coordinate as u16) < size {
-        Some(low as usize + coordinate as usize)
-    } else {
-        None
+impl Region {
+    pub(crate) fn columns(self) -> Axis
+        ensures { result ≡ columns_of self }
+    {
+        Axis {
+            low: self.left,
+            size: self.width,
+        }
+    }
+
+    pub(crate) fn rows(self) -> Axis
+        ensures { result ≡ rows_of self }
+    {
+        Axis {
+            low: self.bottom,
+            size: self.height,
+        }
     }
 }

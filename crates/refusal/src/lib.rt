@@ -35,12 +35,12 @@ pub enum Refusal {
     Buffer,
 }
 
-impl Refusal {
-    /// The number that the refusal is reported by.
-    pub fn number(&self) -> u8
-        ensures { result ≡ number_of self.now }
-    {
-        match self {
+/// The number that the refusal is reported by.
+impl From<Refusal> for u8 {
+    ghost from_gives = { λ r n. n ≡ number_of r };
+
+    fn from(refusal: Refusal) -> u8 {
+        match refusal {
             Refusal::Size => 1,
             Refusal::Memory => 2,
             Refusal::Terminator => 3,
@@ -78,7 +78,7 @@ impl Refusal {
 
 impl fmt::Display for Refusal {
     fn fmt<W: fmt::Write>(&self, f: &mut fmt::Formatter<W>) -> fmt::Result {
-        let number = self.number();
+        let number = u8::from(*self);
         let reason = self.reason();
         write!(f, "refusal {number}: {reason}")
     }

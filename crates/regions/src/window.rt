@@ -6,7 +6,7 @@ ghost use Rattle.raster.specs.Clear.{cleared};
 use crate::area::Area;
 use crate::pen::{Pen, PenGuard};
 use plane::Plane;
-use raster::fill::flood;
+use raster::brush::Brush;
 use raster::region::Point;
 
 /// Its area, the active position counted from the area's lower left, whether a wrap is held, and its pen.
@@ -48,6 +48,7 @@ impl Window {
     {
         let region = self.area.region;
         let guard = PenGuard::new(&mut self.pen, Pen::eraser());
-        flood(plane, region, guard.pen.drawing);
+        let operation = guard.pen.drawing;
+        Brush { region, operation }.flood(plane);
     }
 }

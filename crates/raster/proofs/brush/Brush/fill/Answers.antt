@@ -5,12 +5,12 @@ use Rattle.raster.specs.Region.{among}
 use Rattle.raster.specs.Rectangle.{spans}
 use Rattle.raster.proofs.FillLaws.{confined_filled}
 use Rattle.raster.proofs.PaintLaws.{picked}
-use Rattle.raster.proofs.fill.fill.Goals as goal
+use Rattle.raster.proofs.brush.Brush.fill.Goals as goal
 
 pub returns : goal.returns
 returns g c =
-    let a = c.args in
-    let t = a.rectangle in
+    let b = c.args.self in
+    let t = c.args.rectangle in
     let x = c.span-columns in
     let y = c.span-rows in
     let f1 : SFits w16 t.corner.x = search rules in
@@ -18,6 +18,6 @@ returns g c =
     let f3 : SFits w16 t.width = search rules in
     let f4 : SFits w16 t.height = search rules in
     record {
-      picture = c.cover.ensures ∙ picked (g.P.Plane.picture a.plane.now) a.region (spans t.corner.x t.width) (spans t.corner.y t.height) (λ _ _. applied a.operation true) (among x.result.start x.result.count) (among y.result.start y.result.count) (simp to_z-of_z at x.ensures.picks) (simp to_z-of_z at y.ensures.picks);
-      confined = confined_filled a.region a.operation t;
+      picture = c.cover.ensures ∙ picked (g.P.Plane.picture c.args.plane.now) b.region (spans t.corner.x t.width) (spans t.corner.y t.height) (λ _ _. applied b.operation true) (among x.result.start x.result.count) (among y.result.start y.result.count) (simp to_z-of_z at (rw c.columns-columns.ensures at x.ensures.picks)) (simp to_z-of_z at (rw c.rows-rows.ensures at y.ensures.picks));
+      confined = confined_filled b.region b.operation t;
     }
