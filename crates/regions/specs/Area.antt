@@ -1,6 +1,6 @@
 -- Areas: regions that lie inside the plane and are at least 16 by 16.
 use Rattle.std.specs.Prelude.{◌≡◌, ◌+◌, Bool, true, false, ◌&&◌, ℤ, pos, negsuc, Some, None, Option, nat_le, refl}
-use Rattle.std.proofs.Common.{arith}
+use Rattle.std.proofs.Math.Nat.{le_of_eq, zero-add}
 use Rattle.std.proofs.lemmas.Bool.{and_parts, leb-true}
 use Rattle.raster.specs.declared.rectangle.Rectangle.{Rectangle}
 use Rattle.raster.specs.declared.region.Region.{Region}
@@ -12,7 +12,7 @@ abbrev pub plane_region : Size → Region
 plane_region s = record { left = 0; bottom = 0; width = s.width; height = s.height }
 
 abbrev pub whole : Size → Area
-whole s = record { plane = s; region = plane_region s; wide = s.wide; high = s.high; across = omega arith; up = omega arith }
+whole s = record { plane = s; region = plane_region s; wide = s.wide; high = s.high; across = le_of_eq (zero-add s.width); up = le_of_eq (zero-add s.height) }
 
 -- at least 16 by 16, and inside the plane
 abbrev pub large : Region → Bool
