@@ -15,26 +15,26 @@ use Rattle.state.specs.declared.action.KeyAction.{KeyAction}
 use Rattle.state.specs.declared.action.KeyAction.TheVariants.{Hold}
 use Rattle.state.specs.declared.terminal.Gin.TheVariants.{Off, On, AfterEscape}
 use Rattle.state.specs.declared.terminal.Terminal.{Terminal}
-use Rattle.state.specs.Terminal.{whole, renewed, with_position, with_locked, with_pointer, with_gin}
+use Rattle.state.specs.Terminal.{whole, renewed}
 
 abbrev pub state_after : Terminal → Action → Terminal
 state_after t Nothing = t
-state_after t (Control Lock) = with_locked true t
-state_after t (Control Unlock) = with_locked false t
+state_after t (Control Lock) = record t { locked = true }
+state_after t (Control Unlock) = record t { locked = false }
 state_after t (Control Acknowledge) = t
 state_after t (Control Report) = t
 state_after t (Control Reset) = renewed t
-state_after t (Draw (Move to)) = with_position to t
-state_after t (Draw (Line to)) = with_position to t
-state_after t (Gin Enter) = with_gin On t
-state_after t (Gin Begin) = with_gin AfterEscape t
-state_after t (Gin Lose) = with_gin On t
-state_after t (Gin Leave) = with_gin Off t
-state_after t (Gin GinAction.Report) = with_gin Off t
-state_after t (Gin (GinAction.Send k)) = with_gin Off t
+state_after t (Draw (Move to)) = record t { window = record t.window { position = to } }
+state_after t (Draw (Line to)) = record t { window = record t.window { position = to } }
+state_after t (Gin Enter) = record t { gin = On }
+state_after t (Gin Begin) = record t { gin = AfterEscape }
+state_after t (Gin Lose) = record t { gin = On }
+state_after t (Gin Leave) = record t { gin = Off }
+state_after t (Gin GinAction.Report) = record t { gin = Off }
+state_after t (Gin (GinAction.Send k)) = record t { gin = Off }
 state_after t (Key (Hold k)) = t
 state_after t (Key (KeyAction.Send k)) = t
-state_after t (Aim p) = with_pointer p t
+state_after t (Aim p) = record t { pointer = p }
 
 -- a line runs from the position with the drawing operation, inside the region; all new means that every pixel is 0
 abbrev pub picture_after : Terminal → Action → Picture → Picture

@@ -1,4 +1,4 @@
--- A new terminal, and a terminal with one part changed.
+-- A new terminal, and what ESC c leaves of one.
 use Rattle.std.specs.Prelude.{ℕ, ◌-◌, min, Bool, true, false, pos}
 use Rattle.parser.specs.declared.emulation.Emulation.TheVariants.{Native}
 use Rattle.parser.specs.declared.machine.Parser.{Parser}
@@ -7,7 +7,6 @@ use Rattle.raster.specs.declared.operation.Operation.TheVariants.{Copy}
 use Rattle.raster.specs.declared.region.Point.{Point}
 use Rattle.raster.specs.declared.region.Region.{Region}
 use Rattle.state.specs.declared.setup.Setup.{Setup}
-use Rattle.state.specs.declared.terminal.Gin.{Gin}
 use Rattle.state.specs.declared.terminal.Gin.TheVariants.{Off}
 use Rattle.state.specs.declared.terminal.Place.{Place}
 use Rattle.state.specs.declared.terminal.Terminal.{Terminal}
@@ -42,17 +41,5 @@ new s = made s false (record { x = 0; y = 0 })
 abbrev pub renewed : Terminal → Terminal
 renewed t = made t.setup t.locked t.pointer
 
-abbrev pub with_position : Point → Terminal → Terminal
-with_position p t = record { setup = t.setup; emulation = t.emulation; modes = t.modes; window = record { number = t.window.number; area = t.window.area; position = p; pen = t.window.pen }; locked = t.locked; pointer = t.pointer; gin = t.gin; parser = t.parser }
-
-abbrev pub with_locked : Bool → Terminal → Terminal
-with_locked v t = record { setup = t.setup; emulation = t.emulation; modes = t.modes; window = t.window; locked = v; pointer = t.pointer; gin = t.gin; parser = t.parser }
-
-abbrev pub with_pointer : Place → Terminal → Terminal
-with_pointer v t = record { setup = t.setup; emulation = t.emulation; modes = t.modes; window = t.window; locked = t.locked; pointer = v; gin = t.gin; parser = t.parser }
-
-abbrev pub with_gin : Gin → Terminal → Terminal
-with_gin v t = record { setup = t.setup; emulation = t.emulation; modes = t.modes; window = t.window; locked = t.locked; pointer = t.pointer; gin = v; parser = t.parser }
-
 abbrev pub with_parser : Parser → Terminal → Terminal
-with_parser v t = record { setup = t.setup; emulation = t.emulation; modes = t.modes; window = t.window; locked = t.locked; pointer = t.pointer; gin = t.gin; parser = v }
+with_parser v t = record t { parser = v }

@@ -41,25 +41,25 @@ pub enum GinAction {
     /// The pointer's place.
     Report,
     /// A key, and the pointer's place behind it.
-    Send { stroke: Stroke },
+    Send(Stroke),
 }
 
 /// What becomes of a stroke outside graphics input.
 #[derive(Clone, Copy)]
 pub enum KeyAction {
-    Hold { stroke: Stroke },
-    Send { stroke: Stroke },
+    Hold(Stroke),
+    Send(Stroke),
 }
 
 /// What is to be done, by families.
 #[derive(Clone, Copy)]
 pub enum Action {
     Nothing,
-    Control { control: Control },
-    Draw { drawing: Drawing },
-    Gin { gin: GinAction },
-    Key { key: KeyAction },
-    Aim { at: Place },
+    Control(Control),
+    Draw(Drawing),
+    Gin(GinAction),
+    Key(KeyAction),
+    Aim(Place),
 }
 
 // ESC : with its parameters and its final byte.
@@ -71,12 +71,8 @@ fn draws(values: [i16; 8], last: u8) -> Action
         y: values[1],
     };
     match last {
-        b'm' => Action::Draw {
-            drawing: Drawing::Move { to },
-        },
-        b'd' => Action::Draw {
-            drawing: Drawing::Line { to },
-        },
+        b'm' => Action::Draw(Drawing::Move { to }),
+        b'd' => Action::Draw(Drawing::Line { to }),
         _ => Action::Nothing,
     }
 }
@@ -86,15 +82,9 @@ fn escape(last: u8) -> Action
     ensures { result ≡ escaped last }
 {
     match last {
-        5 => Action::Control {
-            control: Control::Report,
-        },
-        26 => Action::Gin {
-            gin: GinAction::Enter,
-        },
-        b'c' => Action::Control {
-            control: Control::Reset,
-        },
+        5 => Action::Control(Control::Report),
+        26 => Action::Gin(GinAction::Enter),
+        b'c' => Action::Control(Control::Reset),
         _ => Action::Nothing,
     }
 }
@@ -104,9 +94,7 @@ fn execute(byte: u8) -> Action
     ensures { result ≡ executed byte }
 {
     match byte {
-        3 => Action::Control {
-            control: Control::Acknowledge,
-        },
+        3 => Action::Control(Control::Acknowledge),
         _ => Action::Nothing,
     }
 }

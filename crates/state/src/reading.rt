@@ -35,22 +35,14 @@ impl Terminal {
         let action = match (self.gin, byte) {
             // These pass by whatever is begun.
             (_, 0 | 128..=255) => Action::Nothing,
-            (_, 17) => Action::Control {
-                control: Control::Unlock,
-            },
-            (_, 19) => Action::Control {
-                control: Control::Lock,
-            },
+            (_, 17) => Action::Control(Control::Unlock),
+            (_, 19) => Action::Control(Control::Lock),
             (Gin::Off, _) => {
                 let dispatch = parser.step(self.emulation, byte);
                 Action::of(dispatch)
             }
-            (Gin::On, _) => Action::Gin {
-                gin: gin_action(false, byte),
-            },
-            (Gin::AfterEscape, _) => Action::Gin {
-                gin: gin_action(true, byte),
-            },
+            (Gin::On, _) => Action::Gin(gin_action(false, byte)),
+            (Gin::AfterEscape, _) => Action::Gin(gin_action(true, byte)),
         };
         Reading { parser, action }
     }
@@ -60,15 +52,9 @@ impl Terminal {
         ensures { result ≡ struck self.now stroke }
     {
         let action = match self.gin {
-            Gin::Off if self.locked => Action::Key {
-                key: KeyAction::Hold { stroke },
-            },
-            Gin::Off => Action::Key {
-                key: KeyAction::Send { stroke },
-            },
-            Gin::On | Gin::AfterEscape => Action::Gin {
-                gin: GinAction::Send { stroke },
-            },
+            Gin::Off if self.locked => Action::Key(KeyAction::Hold(stroke)),
+            Gin::Off => Action::Key(KeyAction::Send(stroke)),
+            Gin::On | Gin::AfterEscape => Action::Gin(GinAction::Send(stroke)),
         };
         Reading {
             parser: self.parser,

@@ -2,6 +2,8 @@
 ghost use Rattle.std.specs.Prelude.{◌≡◌};
 ghost use Rattle.state.specs.Setup.{numbered};
 
+use refusal::Refusal;
+
 /// What ends a report.
 #[derive(Clone, Copy, PartialEq, Eq, Debug)]
 pub enum Terminator {
@@ -10,21 +12,23 @@ pub enum Terminator {
     CrEot,
 }
 
-impl Terminator {
-    /// The terminator of a number from 0 to 2.
-    pub fn from_number(number: u8) -> Option<Terminator>
-        ensures { result ≡ numbered number }
-    {
+impl TryFrom<u8> for Terminator {
+    type Error = Refusal;
+
+    ghost try_from_gives = { λ n r. r ≡ numbered n };
+
+    fn try_from(number: u8) -> Result<Terminator, Refusal> {
         match number {
-            0 => Some(Terminator::Nothing),
-            1 => Some(Terminator::Cr),
-            2 => Some(Terminator::CrEot),
-            _ => None,
+            0 => Ok(Terminator::Nothing),
+            1 => Ok(Terminator::Cr),
+            2 => Ok(Terminator::CrEot),
+            _ => Err(Refusal::Terminator),
         }
     }
 }
 
 /// The size of the plane that the terminal draws on.
+// Not `regions::size::Size`, which has only the sides that planes have: a terminal of any size can be made.
 #[derive(Clone, Copy, PartialEq, Eq, Debug)]
 pub struct Size {
     pub width: u16,

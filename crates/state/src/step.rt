@@ -4,10 +4,9 @@ ghost use Rattle.state.specs.Step.{state_after, picture_after};
 
 use crate::action::{Action, Control, Drawing, GinAction};
 use crate::terminal::{Gin, Terminal};
-use crate::window::Window;
 use plane::Plane;
+use raster::brush::Brush;
 use raster::clear::clear;
-use raster::line::line;
 
 impl Terminal {
     fn control<P: Plane>(&mut self, plane: &mut P, control: Control)
@@ -33,10 +32,12 @@ impl Terminal {
         match drawing {
             Drawing::Move { to } => self.window.position = to,
             Drawing::Line { to } => {
-                let Window { area, pen, .. } = self.window;
-                let from = self.window.position;
-                let last = self.modes.last_point;
-                line(plane, area, pen.drawing, from, to, last);
+                let window = self.window;
+                let brush = Brush {
+                    region: window.area,
+                    operation: window.pen.drawing,
+                };
+                brush.line(plane, window.position, to, self.modes.last_point);
                 self.window.position = to;
             }
         }
@@ -48,7 +49,7 @@ impl Terminal {
         self.gin = match action {
             GinAction::Enter | GinAction::Lose => Gin::On,
             GinAction::Begin => Gin::AfterEscape,
-            GinAction::Leave | GinAction::Report | GinAction::Send { .. } => Gin::Off,
+            GinAction::Leave | GinAction::Report | GinAction::Send(_) => Gin::Off,
         };
     }
 
@@ -58,11 +59,11 @@ impl Terminal {
         ensures picture { P.picture plane.new ≡ picture_after self.old action (P.picture plane.old) }
     {
         match action {
-            Action::Nothing | Action::Key { .. } => {}
-            Action::Control { control } => self.control(plane, control),
-            Action::Draw { drawing } => self.draw(plane, drawing),
-            Action::Gin { gin } => self.graphics_input(gin),
-            Action::Aim { at } => self.pointer = at,
+            Action::Nothing | Action::Key(_) => {}
+            Action::Control(control) => self.control(plane, control),
+            Action::Draw(drawing) => self.draw(plane, drawing),
+            Action::Gin(gin) => self.graphics_input(gin),
+            Action::Aim(at) => self.pointer = at,
         }
     }
 }

@@ -26,7 +26,7 @@ pub struct Place {
 }
 
 /// Graphics input: the host has asked for the pointer's place, and perhaps begun a sequence.
-#[derive(Clone, Copy)]
+#[derive(Clone, Copy, PartialEq, Eq, Debug)]
 pub enum Gin {
     Off,
     On,
@@ -99,10 +99,10 @@ impl Terminal {
     pub fn renew(&mut self)
         ensures { self.new ≡ renewed self.old }
     {
-        let locked = self.locked;
-        let pointer = self.pointer;
-        *self = Terminal::new(self.setup);
-        self.locked = locked;
-        self.pointer = pointer;
+        *self = Terminal {
+            locked: self.locked,
+            pointer: self.pointer,
+            ..Terminal::new(self.setup)
+        };
     }
 }

@@ -147,7 +147,7 @@ impl Reply {
         match action {
             GinAction::Enter | GinAction::Begin | GinAction::Lose | GinAction::Leave => {}
             GinAction::Report => reply.pointer(terminal),
-            GinAction::Send { stroke } => {
+            GinAction::Send(stroke) => {
                 reply.stroke(terminal, stroke);
                 reply.pointer(terminal);
             }
@@ -161,8 +161,8 @@ impl Reply {
     {
         let mut reply = Reply::new();
         match key {
-            KeyAction::Hold { .. } => {}
-            KeyAction::Send { stroke } => reply.stroke(terminal, stroke),
+            KeyAction::Hold(_) => {}
+            KeyAction::Send(stroke) => reply.stroke(terminal, stroke),
         }
         reply
     }
@@ -174,10 +174,10 @@ impl Reply {
         ensures length { result.length ≤ 64 }
     {
         match action {
-            Action::Nothing | Action::Draw { .. } | Action::Aim { .. } => Reply::new(),
-            Action::Control { control } => Reply::control(terminal, strokes, control),
-            Action::Gin { gin } => Reply::graphics_input(terminal, gin),
-            Action::Key { key } => Reply::key(terminal, key),
+            Action::Nothing | Action::Draw(_) | Action::Aim(_) => Reply::new(),
+            Action::Control(control) => Reply::control(terminal, strokes, control),
+            Action::Gin(gin) => Reply::graphics_input(terminal, gin),
+            Action::Key(key) => Reply::key(terminal, key),
         }
     }
 }

@@ -28,12 +28,8 @@ fn keep(strokes: &mut Queue<'_, Stroke>, action: Action)
     ensures places { places strokes.new ≡ places strokes.old }
 {
     match action {
-        Action::Control {
-            control: Control::Unlock,
-        } => strokes.clear(),
-        Action::Key {
-            key: KeyAction::Hold { stroke },
-        } => {
+        Action::Control(Control::Unlock) => strokes.clear(),
+        Action::Key(KeyAction::Hold(stroke)) => {
             strokes.push(stroke);
         }
         _ => {}
