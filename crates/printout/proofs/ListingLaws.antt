@@ -1,16 +1,18 @@
 -- The text of a listing, row by row, and how it comes into a buffer.
-use Rattle.std.proofs.Common.{◌≡◌, ℕ, zero, suc, ◌+◌, ◌-◌, ◌*◌, ◌<◌, ◌≤◌, true, false, cond, eqb, ltb, leb, List, [], ◌++◌, length, take, drop, Ok, sym, refl, ap, ◌∙◌, ap₂, inl, inr, append_assoc, arith, length-append, take-append-drop, length-take-le, drop-drop}
-use Rattle.std.proofs.lemmas.Bool.{cases_eq, eq-eqb, ne_eqb, cond-true, cond-false, lt-ltb, le-ltb, and_from, and_left, and_right}
+use Rattle.std.proofs.Common.{◌≡◌, ℕ, zero, suc, ◌+◌, ◌-◌, ◌*◌, ◌<◌, ◌≤◌, true, false, cond, eqb, ltb, leb, List, [], ◌++◌, length, take, drop, Some, None, Ok, Result, sym, refl, ap, ◌∙◌, ap₂, inl, inr, append_assoc, arith, length-append, take-append-drop, length-take-le, drop-drop}
+use Rattle.std.proofs.lemmas.Bool.{cases_eq, eq-eqb, ne_eqb, cond-true, cond-false, lt-ltb, le-ltb, le-leb, and_from, and_left, and_right}
+use Rattle.std.specs.Result.{result_unwrap_or}
+use Rattle.refusal.specs.declared.Refusal.{Refusal}
 use Rattle.refusal.specs.declared.Refusal.TheVariants.{PlaneSize, Buffer}
 use Rattle.refusal.specs.Number.{refused}
-use Rattle.columns.specs.Line.{text_of}
+use Rattle.columns.specs.Line.{text_of, answer as line_answer}
 use Rattle.plane.specs.Picture.{Picture}
 use Rattle.printout.specs.declared.ink.Ink.{Ink}
 use Rattle.printout.specs.Ink.{row, inked}
 use Rattle.plane.specs.Run.{how_many as count}
 use Rattle.state.specs.declared.terminal.Terminal.{Terminal}
 use Rattle.state.specs.Size.{same_size}
-use Rattle.printout.specs.Listing.{row_line, row_text, rows, last_line, text, answer, written}
+use Rattle.printout.specs.Listing.{row_line, ink_text, row_text, rows, last_line, text, answer, written}
 
 module _ (p : Picture) (w : ℕ) where
   -- row n - 1 stands before those below
@@ -18,20 +20,16 @@ module _ (p : Picture) (w : ℕ) where
   rows_down zero h = absurd (omega arith)
   rows_down (suc n) h = let e : suc n - 1 ≡ n = omega arith in rw e refl
 
-  pub row_shown : (y : ℕ) (i : Ink) → i ≡ inked (row p y) w → 0 < i.count → row_text p w y ≡ text_of (row_line y i)
-  row_shown y i e h =
-      let some : eqb (count (row p y) w) 0 ≡ false = ne_eqb _ _ (λ z. omega (arith, ap (λ (k : Ink). k.count) e)) in
-      cond-false _ _ _ some ∙ ap (λ k. text_of (row_line y k)) (sym e)
+  pub row_shown : (y : ℕ) (i : Ink) → Some i ≡ inked (row p y) w → row_text p w y ≡ text_of (row_line y i)
+  row_shown y i e = ap (ink_text y) (sym e)
 
-  pub row_blank : (y : ℕ) (i : Ink) → i ≡ inked (row p y) w → i.count ≤ 0 → row_text p w y ≡ []
-  row_blank y i e h =
-      let none : eqb (count (row p y) w) 0 ≡ true = eq-eqb _ _ (omega (arith, ap (λ (k : Ink). k.count) e)) in
-      cond-true _ _ _ none
+  pub row_blank : (y : ℕ) → None ≡ inked (row p y) w → row_text p w y ≡ []
+  row_blank y e = ap (ink_text y) (sym e)
 
   -- there is room for the line of a row that is to come
-  pub row_fits : (n : ℕ) (i : Ink) → 0 < n → i ≡ inked (row p (n - 1)) w → 0 < i.count → 25 ≤ length (rows p w n)
-  row_fits n i h e some =
-      omega (arith, ap length (rows_down n h), length-append (row_text p w (n - 1)) (rows p w (n - 1)), ap length (row_shown (n - 1) i e some))
+  pub row_fits : (n : ℕ) (i : Ink) → 0 < n → Some i ≡ inked (row p (n - 1)) w → 25 ≤ length (rows p w n)
+  row_fits n i h e =
+      omega (arith, ap length (rows_down n h), length-append (row_text p w (n - 1)) (rows p w (n - 1)), ap length (row_shown (n - 1) i e))
 
   -- every line has 25 bytes
   row_length : (y : ℕ) → length (row_text p w y) ≡ 25 * cond (ltb 0 (count (row p y) w)) 1 0
@@ -51,6 +49,13 @@ module _ (p : Picture) (w : ℕ) where
       let down : rows p w n ≡ line ++ rows p w y =
       let z : n - 1 ≡ y = omega arith in rows_down n (omega arith) ∙ ap (λ k. row_text p w k ++ rows p w k) z ∙ ap (λ t. t ++ rows p w y) el in
       ap (λ t. t ++ rows p w y) eb ∙ append_assoc before line (rows p w y) ∙ ap (λ t. before ++ t) (sym down) ∙ e
+
+-- a line that fits ends 25 bytes on
+pub line_ends : (n at : ℕ) (r : Result ℕ Refusal) → r ≡ line_answer n at → at + 25 ≤ n → r ≡ Ok (at + 25)
+line_ends n at r e le = e ∙ cond-true _ _ _ (le-leb (at + 25) n le)
+
+pub line_end : (n at end : ℕ) (r : Result ℕ Refusal) → r ≡ line_answer n at → at + 25 ≤ n → r ≡ Ok end → end ≡ at + 25
+line_end n at end r e le is = ap (λ (q : Result ℕ Refusal). result_unwrap_or q 0) (sym is ∙ line_ends n at r e le)
 
 -- where a written part ends
 pub so_far : (buffer rest whole : List ℕ) (at : ℕ) → at ≤ length buffer → take at buffer ++ rest ≡ whole → at + length rest ≡ length whole

@@ -1,5 +1,5 @@
 -- The ink of a row of pixels.
-use Rattle.std.specs.Prelude.{◌≡◌, ℕ, zero, suc, ◌+◌, ◌<◌, ◌≤◌, Bool, true, cond, ◌==◌, nat_lt}
+use Rattle.std.specs.Prelude.{◌≡◌, ℕ, zero, suc, ◌+◌, ◌<◌, ◌≤◌, Bool, true, if◌then◌else◌, Some, None, Option, ◌==◌, nat_lt}
 use Rattle.plane.specs.Picture.{Picture}
 use Rattle.plane.specs.Run.{how_many as count}
 use Rattle.state.specs.declared.setup.Size.{Size}
@@ -12,18 +12,20 @@ row p y x = p.at x y
 -- the first of the n places that is set, and the last
 abbrev pub first : (ℕ → Bool) → ℕ → ℕ
 first f zero = 0
-first f (suc n) = cond (f n) (cond (count f n == 0) n (first f n)) (first f n)
+first f (suc n) = if f n then (if count f n == 0 then n else first f n) else first f n
 
 abbrev pub last : (ℕ → Bool) → ℕ → ℕ
 last f zero = 0
-last f (suc n) = cond (f n) n (last f n)
+last f (suc n) = if f n then n else last f n
 
-abbrev pub inked : (ℕ → Bool) → ℕ → Ink
-inked f n = record { first = first f n; last = last f n; count = count f n }
+-- none where no place is set
+abbrev pub inked : (ℕ → Bool) → ℕ → Option Ink
+inked f n = if count f n == 0 then None else Some (record { first = first f n; last = last f n; count = count f n })
 
 -- the ink with one place more, right of the others
-abbrev pub one_more : ℕ → Ink → Ink
-one_more x i = record { first = cond (i.count == 0) x i.first; last = x; count = i.count + 1 }
+abbrev pub one_more : ℕ → Option Ink → Ink
+one_more x None = record { first = x; last = x; count = 1 }
+one_more x (Some i) = record i { last = x; count = i.count + 1 }
 
 -- how many rows have ink
 abbrev pub inked_rows : Picture → Size → ℕ

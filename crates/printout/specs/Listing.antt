@@ -1,5 +1,5 @@
 -- The listing: a line for each row with ink, top first, and a last line.
-use Rattle.std.specs.Prelude.{ℕ, zero, suc, cond, ◌&&◌, List, [], ◌++◌, length, drop, Ok, Result, ◌==◌, nat_le, refl}
+use Rattle.std.specs.Prelude.{ℕ, zero, suc, if◌then◌else◌, ◌&&◌, List, [], ◌++◌, length, drop, Some, None, Ok, Option, Result, nat_le, refl}
 use Rattle.columns.specs.declared.line.Line.{Line}
 use Rattle.columns.specs.Line.{text_of, small}
 use Rattle.columns.specs.Number.{signed, unsigned}
@@ -12,15 +12,19 @@ use Rattle.state.specs.declared.terminal.Terminal.{Terminal}
 use Rattle.state.specs.Size.{same_size}
 use Rattle.printout.specs.declared.ink.Ink.{Ink}
 use Rattle.printout.specs.Ink.{row, inked}
-use Rattle.plane.specs.Run.{how_many as count}
 
 -- y, first x, last x, count
 abbrev pub row_line : ℕ → Ink → Line
 row_line y i = small y i.first i.last i.count
 
+-- the text of a row by its ink
+abbrev pub ink_text : ℕ → Option Ink → List ℕ
+ink_text y None = []
+ink_text y (Some i) = text_of (row_line y i)
+
 -- the text of row y of w pixels: none where it has no ink
 abbrev pub row_text : Picture → ℕ → ℕ → List ℕ
-row_text p w y = cond (count (row p y) w == 0) [] (text_of (row_line y (inked (row p y) w)))
+row_text p w y = ink_text y (inked (row p y) w)
 
 -- the text of the rows below n, the highest first
 abbrev pub rows : Picture → ℕ → ℕ → List ℕ
@@ -42,8 +46,11 @@ text t p = rows p t.setup.size.width t.setup.size.height ++ text_of (last_line t
 -- the length of the text; another size is refused first, then a buffer of too few bytes
 abbrev pub answer : Terminal → Picture → ℕ → Result ℕ Refusal
 answer t p room =
-    cond (same_size t p) (cond (nat_le (length (text t p)) room) (Ok (length (text t p))) (refused Buffer 12 refl)) (refused PlaneSize 4 refl)
+    if same_size t p
+    then (if nat_le (length (text t p)) room then Ok (length (text t p)) else refused Buffer 12 refl)
+    else refused PlaneSize 4 refl
 
 -- the buffer begins with the text, and its rest stays; where the call is refused all of it does
 abbrev pub written : Terminal → Picture → List ℕ → List ℕ
-written t p buffer = cond (same_size t p && nat_le (length (text t p)) (length buffer)) (text t p ++ drop (length (text t p)) buffer) buffer
+written t p buffer =
+    if same_size t p && nat_le (length (text t p)) (length buffer) then text t p ++ drop (length (text t p)) buffer else buffer

@@ -39,19 +39,6 @@ fn last_line(terminal: &Terminal) -> Line
     }
 }
 
-// Writes a line where there is room for it.
-fn put(line: &Line, buffer: &mut [u8], at: usize) -> usize
-    requires { at + 25 ≤ length buffer.old }
-    ensures end { result ≡ at + 25 }
-    ensures text { take (at + 25) buffer.new ≡ take at buffer.old ++ text_of line.now }
-    ensures rest { drop (at + 25) buffer.new ≡ drop (at + 25) buffer.old }
-{
-    match line.write(buffer, at) {
-        Ok(end) => end,
-        Err(_) => at,
-    }
-}
-
 // Writes the lines of the rows with ink, top first.
 fn put_rows<P: Plane>(plane: &P, size: Size, buffer: &mut [u8]) -> usize
     requires { length (rows_of (P.picture plane.now) size.width size.height) ≤ length buffer.old }
@@ -61,9 +48,8 @@ fn put_rows<P: Plane>(plane: &P, size: Size, buffer: &mut [u8]) -> usize
 {
     let mut at = 0;
     for y in (0..size.height).rev() {
-        let ink = ink_of_row(plane, size.width, y);
-        if ink.count > 0 {
-            at = put(&row_line(y, ink), buffer, at);
+        if let Some(ink) = ink_of_row(plane, size.width, y) {
+            at = row_line(y, ink).write(buffer, at).unwrap();
         }
     }
     at
@@ -73,8 +59,7 @@ fn put_rows<P: Plane>(plane: &P, size: Size, buffer: &mut [u8]) -> usize
 fn has_room<P: Plane>(plane: &P, size: Size, room: usize) -> bool
     ensures { result ≡ nat_le (length (rows_of (P.picture plane.now) size.width size.height) + 25) room }
 {
-    LENGTH * (size.height as usize + 1) <= room
-        || LENGTH * (inked_rows(plane, size) as usize + 1) <= room
+    LENGTH * (size.height as usize + 1) <= room || LENGTH * (inked_rows(plane, size) + 1) <= room
 }
 
 /// Writes the listing into the buffer and answers its length.
@@ -96,5 +81,5 @@ pub fn listing<P: Plane>(
         return Err(Refusal::Buffer);
     }
     let at = put_rows(plane, size, buffer);
-    Ok(put(&last_line(terminal), buffer, at))
+    last_line(terminal).write(buffer, at)
 }

@@ -6,6 +6,14 @@ use Rattle.printout.proofs.InkLaws.{count_le}
 use Rattle.printout.proofs.ListingLaws.{rows_length}
 use Rattle.printout.proofs.listing.has_room.Goals as goal
 
+pub overflow_add-result : goal.overflow_add-result
+overflow_add-result g c =
+    omega (arith, c.inked_rows.ensures, count_le (λ y. ltb 0 (count (row (g.P.Plane.picture c.args.plane.now) y) c.args.size.width)) c.args.size.height)
+
+pub overflow_mul-result : goal.overflow_mul-result
+overflow_mul-result g c =
+    omega (arith, c.inked_rows.ensures, count_le (λ y. ltb 0 (count (row (g.P.Plane.picture c.args.plane.now) y) c.args.size.width)) c.args.size.height)
+
 pub returns-then-size-room : goal.returns-then-size-room
 returns-then-size-room g c =
     let p = g.P.Plane.picture c.args.plane.now in
