@@ -4,6 +4,7 @@
 ghost use Rattle.std.specs.Prelude.{◌-◌, ◌≤◌, length};
 
 mod calls;
+pub mod iter;
 mod reads;
 pub mod ring;
 

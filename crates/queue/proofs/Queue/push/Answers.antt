@@ -1,5 +1,5 @@
-use Rattle.std.proofs.Common.{◌+◌, set, sym, refl, ap, ◌∙◌, arith}
-use borrow.Author.Tests.{lt-true, le-false, clash}
+use Rattle.std.proofs.Common.{◌+◌, set, refl, ap, ◌∙◌, arith}
+use Rattle.std.proofs.lemmas.Bool.Decides.{nat_tests}
 use Rattle.std.proofs.lemmas.List.{length-set}
 use Rattle.queue.specs.Ring.{ring}
 use Rattle.queue.specs.Waiting.{waiting, places}
@@ -9,11 +9,10 @@ use Rattle.queue.proofs.Queue.push.Goals as goal
 pub returns-then-self-size : goal.returns-then-self-size
 unfolding places
 returns-then-self-size g c = record {
-  answer = le-false _ _ (omega (arith, length_waiting c.args.self.now));
+  answer = grind (arith, nat_tests, length_waiting c.args.self.now);
   joins = refl;
-  places = refl;
-  memory = refl;
-  refused = λ _. refl;
+  stays = record { places = refl; memory = refl };
+  refused = refl;
 }
 
 pub returns : goal.returns
@@ -23,9 +22,8 @@ returns g c =
     let xs = q.items.now in
     let x = c.args.x in
     record {
-      answer = lt-true _ _ (omega (arith, length_waiting q));
+      answer = grind (arith, nat_tests, length_waiting q);
       joins = ap (λ i. ring (set xs i x) q.head (q.waits + 1)) c.place-at.ensures ∙ ring_push xs q.head q.waits x (omega arith) (omega arith);
-      places = length-set xs c.place-at.result x;
-      memory = refl;
-      refused = λ e. absurd (clash (sym e));
+      stays = record { places = length-set xs c.place-at.result x; memory = refl };
+      refused = tt;
     }
