@@ -16,13 +16,11 @@ pub struct Iter<'a, T> {
 }
 
 impl<'a, T> Model for Iter<'a, T> {
-    ghost use Rattle.std.specs.Prelude.{◌+◌, ◌^◌, ◌<◌, List, ◌++◌, length};
+    ghost use Rattle.std.specs.Prelude.{List, ◌++◌};
 
     ghost Value = { List T };
 
     ghost view = { λ s. s.older.now ++ s.newer.now };
-
-    ghost invariant = { λ s. length s.older.now + length s.newer.now < 2 ^ 64 };
 }
 
 impl<T> Queue<'_, T> {
@@ -31,7 +29,6 @@ impl<T> Queue<'_, T> {
         ensures rest { result ≡ waiting self.now }
         ensures runs { ShowsInOrder (deref {X = T}) }
     {
-        let _waits = self.waits;
         let (older, newer) = self.as_slices();
         Iter { older, newer }
     }
