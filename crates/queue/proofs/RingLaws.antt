@@ -1,5 +1,5 @@
 -- A ring when an element joins, when one is read and when the first leaves.
-use Rattle.std.proofs.Common.{◌≡◌, ℕ, suc, ◌+◌, ◌-◌, ◌<◌, ◌≤◌, min, inl, inr, ltb, List, [], ◌∷◌, ◌++◌, length, get_or, take, drop, set, Some, sym, refl, ap, ◌∙◌, arith}
+use Rattle.std.proofs.Common.{◌≡◌, ℕ, suc, ◌+◌, ◌-◌, ◌<◌, ◌≤◌, min, inl, inr, nat_lt, List, [], ◌∷◌, ◌++◌, length, get_or, take, drop, set, Some, sym, refl, ap, ◌∙◌, arith}
 use lib.Seq.{take-append-add}
 use Rattle.std.proofs.lemmas.List.{length-append, length-take-le, length-drop, length-set, take-append-le, take_more_set, drop-set-add, drop-set-lt, drop_all, drop_more, append-nil, append_assoc, take_all, get_or-take, get_or-drop, get_or_append_left, get_or-append_right}
 use Rattle.std.proofs.lemmas.Bool.{cases_lt, ltb-true, ltb-false, cond_both}
@@ -11,7 +11,7 @@ use Rattle.queue.specs.declared.Queue.{Queue}
 -- what holds of the place before the turn and of the one after it
 by_turn : (P : ℕ → Type 0) (size h i : ℕ) → (i < size - h → P (h + i)) → (size - h ≤ i → P (i - (size - h))) → P (place size h i)
 by_turn P size h i near far =
-    cond_both (ltb i (size - h)) (h + i) (i - (size - h)) P (λ e. near (ltb-true i (size - h) e)) (λ e. far (ltb-false i (size - h) e))
+    cond_both (nat_lt i (size - h)) (h + i) (i - (size - h)) P (λ e. near (ltb-true i (size - h) e)) (λ e. far (ltb-false i (size - h) e))
 
 -- the front of two lists that reaches into the second
 take_past : {X : Type 0} (xs ys : List X) (n : ℕ) → length xs ≤ n → take n (xs ++ ys) ≡ xs ++ take (n - length xs) ys
