@@ -1,6 +1,15 @@
--- Packets of which the first leaves, or loses a byte.
-use Rattle.std.proofs.Common.{◌≡◌, ℕ, ◌<◌, List, [], ◌∷◌, ◌++◌, length, get_or, set, remove, suc, sym, ap, ◌∙◌, subst, arith}
+-- How many bytes and packets wait, and packets of which the first leaves or loses a byte.
+use Rattle.std.proofs.Common.{◌≡◌, ℕ, ◌<◌, List, [], ◌∷◌, ◌++◌, length, get_or, set, remove, suc, refl, sym, ap, ◌∙◌, subst, arith}
+use Rattle.arrayvec.specs.ArrayVec.{array_vec_len}
 use Rattle.line.specs.Content.{Packet, content, contents, EachWaits}
+use Rattle.line.specs.PacketWire.{in_use}
+use Rattle.line.specs.declared.packets.Packets.{Packets}
+
+pub length_content : (p : Packet) → length (content p) ≡ array_vec_len p
+length_content p = refl
+
+pub length_in_use : (s : Packets) → length (in_use s) ≡ array_vec_len s.packets
+length_in_use s = refl
 
 pub first_byte : (bs cs : List ℕ) (b : ℕ) → 0 < length bs → b ≡ get_or bs 0 b → cs ≡ remove bs 0 → bs ≡ b ∷ cs
 first_byte [] cs b some is gone = absurd (omega arith)
