@@ -1,4 +1,1 @@
-pub mod DrainLaws
 pub mod PacketLaws
-pub mod RingEdits
-pub mod TakeLaws

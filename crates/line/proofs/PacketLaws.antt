@@ -1,36 +1,24 @@
--- A packet with its first byte apart, and packets of which the first or the last is.
-use Rattle.std.proofs.Common.{◌≡◌, ℕ, ◌+◌, List, [], ◌∷◌, ◌++◌, get_or, take, drop, sym, ap, ◌∙◌, arith}
-use Rattle.std.proofs.lemmas.List.{length-take-le, drop_more, drop-drop, drop_all, get_or-take, flat_map_more}
-use Rattle.line.specs.Content.{content, contents}
-use Rattle.line.specs.declared.packet.Packet.{Packet}
+-- How many bytes and packets wait, and packets of which the first leaves or loses a byte.
+use Rattle.std.proofs.Common.{◌≡◌, ℕ, ◌<◌, List, [], ◌∷◌, ◌++◌, length, get_or, set, remove, suc, refl, sym, ap, ◌∙◌, subst, arith}
+use Rattle.arrayvec.specs.ArrayVec.{array_vec_len}
+use Rattle.line.specs.Content.{Packet, content, contents, EachWaits}
+use Rattle.line.specs.PacketWire.{in_use}
+use Rattle.line.specs.declared.packets.Packets.{Packets}
 
-module _ (p : Packet) where
-  pub drop_first : drop 1 (content p) ≡ drop (p.next + 1) (take p.end p.bytes)
-  unfolding content
-  drop_first = drop-drop 1 p.next (take p.end p.bytes)
+pub length_content : (p : Packet) → length (content p) ≡ array_vec_len p
+length_content p = refl
 
-  pub content_first : content p ≡ get_or p.bytes p.next 0 ∷ drop 1 (content p)
-  unfolding content
-  content_first =
-      let size = p.size in
-      let some = p.some in
-      let fits = p.fits in
-      let long = length-take-le p.end p.bytes (omega arith) in
-      drop_more (take p.end p.bytes) p.next 0 (omega arith)
-      ∙ ap (λ b. b ∷ drop (p.next + 1) (take p.end p.bytes)) (get_or-take p.end p.bytes p.next 0 some)
-      ∙ ap (λ bs. get_or p.bytes p.next 0 ∷ bs) (sym drop_first)
+pub length_in_use : (s : Packets) → length (in_use s) ≡ array_vec_len s.packets
+length_in_use s = refl
 
-  pub last_leaves : p.next + 1 ≡ p.end → drop 1 (content p) ≡ []
-  last_leaves e =
-      let size = p.size in
-      let fits = p.fits in
-      let long = length-take-le p.end p.bytes (omega arith) in
-      drop_first ∙ drop_all (p.next + 1) (take p.end p.bytes) (omega arith)
+pub first_byte : (bs cs : List ℕ) (b : ℕ) → 0 < length bs → b ≡ get_or bs 0 b → cs ≡ remove bs 0 → bs ≡ b ∷ cs
+first_byte [] cs b some is gone = absurd (omega arith)
+first_byte (a ∷ bs) cs b some is gone = ap (λ x. x ∷ bs) (sym is) ∙ ap (λ xs. b ∷ xs) (sym gone)
 
-pub contents_push : (ps : List Packet) (p : Packet) → contents (ps ++ p ∷ []) ≡ contents ps ++ content p
-contents_push ps p = sym (flat_map_more content [] ps p)
+-- a byte taken from the first of the packets ps, which is p before and q after it
+pub first_leaves : (ps : List Packet) (p q : Packet) (b : ℕ) → 0 < length ps → p ≡ get_or ps 0 p → content p ≡ b ∷ content q → contents ps ≡ b ∷ contents (set ps 0 q)
+first_leaves [] p q b some is parts = absurd (omega arith)
+first_leaves (o ∷ ps) p q b some is parts = ap (λ bs. bs ++ contents ps) (ap content (sym is) ∙ parts)
 
--- a byte taken from the first of the packets ps, where qs are those after it
-pub first_leaves : (ps qs rest : List Packet) (p : Packet) (b : ℕ) → ps ≡ p ∷ rest → content p ≡ b ∷ drop 1 (content p) → contents qs ≡ drop 1 (content p) ++ contents rest → contents ps ≡ b ∷ contents qs
-first_leaves ps qs rest p b parts first after =
-    ap contents parts ∙ ap (λ bs. bs ++ contents rest) first ∙ ap (λ bs. b ∷ bs) (sym after)
+pub behind_wait : (ps qs : List Packet) (p : Packet) → ps ≡ p ∷ qs → EachWaits ps → EachWaits qs
+behind_wait ps qs p parts some k d lt = subst EachWaits parts some (suc k) d (omega arith)

@@ -1,6 +1,7 @@
 -- A queue of bytes as a line.
-use Rattle.std.specs.Prelude.{◌≡◌, ℕ, ◌-◌, length}
-use Rattle.std.proofs.Common.{ap, arith}
+use Rattle.std.specs.Prelude.{ℕ, ◌-◌, length}
+use Rattle.std.proofs.Common.{ap, ◌∙◌}
+use Rattle.std.proofs.Math.Nat.{sub-zero}
 use Rattle.queue.specs.Waiting.{waiting, places}
 use Rattle.queue.specs.declared.Queue.{Queue}
 use Rattle.line.specs.Wire.{Wire, Lawful}
@@ -9,4 +10,4 @@ abbrev pub byte_wire : Queue ℕ → Wire
 byte_wire q = record { waiting = waiting q; room = places q - length (waiting q); capacity = places q }
 
 pub byte_lawful : (q : Queue ℕ) → Lawful (byte_wire q)
-byte_lawful q e = let none : length (waiting q) ≡ 0 = ap length e in omega arith
+byte_lawful q e = ap (λ ws. places q - length ws) e ∙ sub-zero (places q)

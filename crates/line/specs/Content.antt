@@ -1,10 +1,17 @@
 -- What waits in a packet, and in packets one after the other.
-use Rattle.std.specs.Prelude.{ℕ, List, take, drop}
-use Rattle.std.specs.List.{flat_map}
-use Rattle.line.specs.declared.packet.Packet.{Packet}
+use Rattle.std.specs.Prelude.{ℕ, ◌<◌, List, length}
+use Rattle.std.specs.List.{All, flat_map}
+use Rattle.arrayvec.specs.ArrayVec.{ArrayVec}
 
-unfoldable pub content : Packet → List ℕ
-content p = drop p.next (take p.end p.bytes)
+abbrev pub Packet : Type 0
+Packet = ArrayVec ℕ
+
+abbrev pub content : Packet → List ℕ
+content p = p.items
 
 abbrev pub contents : List Packet → List ℕ
 contents ps = flat_map content ps
+
+-- in every packet something waits, since an emptied packet is free
+abbrev pub EachWaits : List Packet → Type 0
+EachWaits ps = All (λ p. 0 < length (content p)) ps

@@ -1,6 +1,7 @@
 -- How bytes come onto a line and leave it, as relations of the line before and after.
-use Rattle.std.specs.Prelude.{◌≡◌, ℕ, ◌+◌, ◌<◌, ◌≤◌, min, Bool, true, false, List, [], ◌∷◌, ◌++◌, length, Some, None, Option}
+use Rattle.std.specs.Prelude.{◌≡◌, ℕ, ◌+◌, ◌<◌, ◌≤◌, min, List, [], ◌∷◌, ◌++◌, length, Some, None, Ok, Err, Option, Result}
 use Rattle.line.specs.Wire.{Wire, Lawful}
+use Rattle.line.specs.declared.shortage.Shortage.{Shortage}
 
 -- an accepted offer: the room may fall by more than its bytes
 pub record Offered (l : Wire) (bytes : List ℕ) (m : Wire) : Type 0 where
@@ -11,9 +12,9 @@ pub record Offered (l : Wire) (bytes : List ℕ) (m : Wire) : Type 0 where
   pub lawful : Lawful m
 
 -- an offer, by its answer
-abbrev pub Answered : Wire → List ℕ → Bool → Wire → Type 0
-Answered l bytes true m = Offered l bytes m
-Answered l bytes false m = (l.room < length bytes) × (m ≡ l)
+abbrev pub Answered : Wire → List ℕ → Result (Unit {0}) Shortage → Wire → Type 0
+Answered l bytes (Ok _) m = Offered l bytes m
+Answered l bytes (Err s) m = (l.room < length bytes) × (s ≡ record { need = length bytes; room = l.room }) × (m ≡ l)
 
 -- bytes that left from the front: the room is open but for the law
 pub record Taken (l : Wire) (bytes : List ℕ) (m : Wire) : Type 0 where

@@ -2,6 +2,7 @@
 ghost use Rattle.line.specs.ByteWire.{byte_wire, byte_lawful};
 
 use crate::Line;
+use crate::shortage::Shortage;
 use queue::Queue;
 
 impl Line for Queue<'_, u8> {
@@ -17,14 +18,12 @@ impl Line for Queue<'_, u8> {
         self.places()
     }
 
-    fn offer(&mut self, bytes: &[u8]) -> bool {
-        if bytes.len() > Queue::room(self) {
-            return false;
-        }
+    fn offer(&mut self, bytes: &[u8]) -> Result<(), Shortage> {
+        Shortage::check(bytes.len(), Queue::room(self))?;
         for b in bytes {
-            self.push(*b);
+            self.push(*b).unwrap();
         }
-        true
+        Ok(())
     }
 
     fn take(&mut self) -> Option<u8> {

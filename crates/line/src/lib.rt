@@ -1,13 +1,15 @@
 //! A line: bytes that wait in order, a room and a fixed capacity.
 #![tactic(auto)]
 
-ghost use Rattle.std.specs.Prelude.{◌≡◌, ◌≤◌, false, length, take, drop, None};
+ghost use Rattle.std.specs.Prelude.{◌≡◌, ◌≤◌, length, take, drop, None, OnErr};
 ghost use Rattle.line.specs.Transfer.{Answered, Delivered, Emptied};
 ghost use Rattle.line.specs.Wire.{Wire, Lawful};
 
 pub mod bytes;
-mod packet;
 pub mod packets;
+pub mod shortage;
+
+use shortage::Shortage;
 
 /// Bytes that wait, whatever holds them. How much room a take gives back is the line's own affair.
 pub trait Line {
@@ -23,9 +25,9 @@ pub trait Line {
         ensures { result ≡ (carried self.now).capacity };
 
     /// Accepts all of `bytes`, or none of them if they exceed the room.
-    fn offer(&mut self, bytes: &[u8]) -> bool
+    fn offer(&mut self, bytes: &[u8]) -> Result<(), Shortage>
         ensures answered { Answered (carried self.old) bytes.now result (carried self.new) }
-        ensures refused { result ≡ false → self.new ≡ self.old };
+        ensures refused { OnErr result (self.new ≡ self.old) };
 
     /// Takes the first byte.
     fn take(&mut self) -> Option<u8>
@@ -39,13 +41,11 @@ pub fn drain<L: Line>(line: &mut L, buffer: &mut [u8]) -> usize
     ensures bound { result ≤ length buffer.old }
     ensures rest { drop result buffer.new ≡ drop result buffer.old }
 {
-    let mut count = 0;
-    while count < buffer.len() {
+    for (count, place) in buffer.iter_mut().enumerate() {
         let Some(byte) = line.take() else {
             return count;
         };
-        buffer[count] = byte;
-        count += 1;
+        *place = byte;
     }
-    count
+    buffer.len()
 }

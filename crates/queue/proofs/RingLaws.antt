@@ -1,8 +1,8 @@
 -- A ring when an element joins, when one is read and when the first leaves.
-use Rattle.std.proofs.Common.{◌≡◌, ℕ, suc, ◌+◌, ◌-◌, ◌<◌, ◌≤◌, ltb, List, [], ◌∷◌, ◌++◌, length, get_or, take, drop, set, Some, sym, refl, ap, ◌∙◌, arith}
+use Rattle.std.proofs.Common.{◌≡◌, ℕ, suc, ◌+◌, ◌-◌, ◌<◌, ◌≤◌, min, inl, inr, nat_lt, List, [], ◌∷◌, ◌++◌, length, get_or, take, drop, set, Some, sym, refl, ap, ◌∙◌, arith}
 use lib.Seq.{take-append-add}
-use Rattle.std.proofs.lemmas.List.{length-append, length-take-le, length-drop, length-set, take-append-le, take_more_set, drop-set-add, drop-set-lt, drop_all, drop_more, append_assoc, get_or-take, get_or-drop, get_or_append_left, get_or-append_right}
-use Rattle.std.proofs.lemmas.Bool.{ltb-true, ltb-false, cond_both}
+use Rattle.std.proofs.lemmas.List.{length-append, length-take-le, length-drop, length-set, take-append-le, take_more_set, drop-set-add, drop-set-lt, drop_all, drop_more, append-nil, append_assoc, take_all, get_or-take, get_or-drop, get_or_append_left, get_or-append_right}
+use Rattle.std.proofs.lemmas.Bool.{cases_lt, ltb-true, ltb-false, cond_both}
 use Rattle.queue.specs.Nth.{first, nth}
 use Rattle.queue.specs.Ring.{ring, place}
 use Rattle.queue.specs.Waiting.{waiting, places}
@@ -11,7 +11,7 @@ use Rattle.queue.specs.declared.Queue.{Queue}
 -- what holds of the place before the turn and of the one after it
 by_turn : (P : ℕ → Type 0) (size h i : ℕ) → (i < size - h → P (h + i)) → (size - h ≤ i → P (i - (size - h))) → P (place size h i)
 by_turn P size h i near far =
-    cond_both (ltb i (size - h)) (h + i) (i - (size - h)) P (λ e. near (ltb-true i (size - h) e)) (λ e. far (ltb-false i (size - h) e))
+    cond_both (nat_lt i (size - h)) (h + i) (i - (size - h)) P (λ e. near (ltb-true i (size - h) e)) (λ e. far (ltb-false i (size - h) e))
 
 -- the front of two lists that reaches into the second
 take_past : {X : Type 0} (xs ys : List X) (n : ℕ) → length xs ≤ n → take n (xs ++ ys) ≡ xs ++ take (n - length xs) ys
@@ -24,6 +24,15 @@ turns : {X : Type 0} (xs : List X) (h n : ℕ) → length xs ≤ h → n ≤ len
 turns xs h n past fits = ap (λ ys. take n (ys ++ xs)) (drop_all h xs past) ∙ sym (take-append-le n xs xs fits)
 
 module _ {X : Type 0} (xs : List X) (h n : ℕ) where
+  -- those up to the last place, and those from the first one on
+  pub ring_parts : (k : ℕ) → k ≡ min n (length (drop h xs)) → take k (drop h xs) ++ take (n - k) xs ≡ ring xs h n
+  ring_parts k e = elim (cases_lt n (length (drop h xs))) [
+    | inl near ↦ let all : k ≡ n = omega arith in let none : n - k ≡ 0 = omega arith in
+        rw none (append-nil _ ∙ ap (λ j. take j (drop h xs)) all ∙ sym (take-append-le n (drop h xs) xs (omega arith)))
+    | inr far ↦ let past : k ≡ length (drop h xs) = omega arith in
+        rw past (ap (λ ys. ys ++ take (n - length (drop h xs)) xs) (take_all _ (drop h xs) (omega arith)) ∙ sym (take_past (drop h xs) xs n far))
+  ]
+
   pub length_ring : n ≤ length xs → length (ring xs h n) ≡ n
   length_ring fits = length-take-le n (drop h xs ++ xs) (omega (arith, length-append (drop h xs) xs))
 

@@ -1,5 +1,5 @@
 -- What a queue means.
-use Rattle.std.specs.Prelude.{ℕ, List, length}
+use Rattle.std.specs.Prelude.{◌≡◌, ℕ, List, length}
 use Rattle.std.specs.Borrow.{GName}
 use Rattle.queue.specs.Ring.{ring}
 use Rattle.queue.specs.declared.Queue.{Queue}
@@ -14,3 +14,8 @@ places q = length q.items.now
 -- which memory it was lent: no call exchanges it for another
 abbrev pub memory : {T : Type 0} → Queue T → GName
 memory q = q.items.ghost_name
+
+-- a call that leaves a queue the memory it was lent, and all places of it
+pub record SameMemory {T : Type 0} (q m : Queue T) : Type 0 where
+  pub places : places m ≡ places q
+  pub memory : memory m ≡ memory q

@@ -1,7 +1,7 @@
 //! A queue is made, and what waits in it changes.
-ghost use Rattle.std.specs.Prelude.{◌≡◌, false, [], ◌∷◌, ◌++◌, length, drop, if◌then◌else◌, None, nat_lt};
+ghost use Rattle.std.specs.Prelude.{◌≡◌, [], ◌∷◌, ◌++◌, length, drop, if◌then◌else◌, None, Ok, Err, OnErr, is_ok, nat_lt};
 ghost use Rattle.queue.specs.Nth.{first};
-ghost use Rattle.queue.specs.Waiting.{waiting, places, memory};
+ghost use Rattle.queue.specs.Waiting.{waiting, places, memory, SameMemory};
 
 use super::Queue;
 use super::ring::place;
@@ -20,30 +20,28 @@ impl<'a, T: Copy> Queue<'a, T> {
         }
     }
 
-    /// Puts `x` last, unless every place waits.
-    pub fn push(&mut self, x: T) -> bool
-        ensures answer { result ≡ nat_lt (length (waiting self.old)) (places self.old) }
-        ensures joins { waiting self.new ≡ (if result then waiting self.old ++ x ∷ [] else waiting self.old) }
-        ensures places { places self.new ≡ places self.old }
-        ensures memory { memory self.new ≡ memory self.old }
-        ensures refused { result ≡ false → self.new ≡ self.old }
+    /// Puts `x` last, or gives it back if every place waits.
+    pub fn push(&mut self, x: T) -> Result<(), T>
+        ensures answer { result ≡ (if nat_lt (length (waiting self.old)) (places self.old) then Ok tt else Err x) }
+        ensures joins { waiting self.new ≡ (if is_ok result then waiting self.old ++ x ∷ [] else waiting self.old) }
+        ensures stays { SameMemory self.old self.new }
+        ensures refused { OnErr result (self.new ≡ self.old) }
     {
         let size = self.items.len();
         if self.waits == size {
-            return false;
+            return Err(x);
         }
         let at = place(size, self.head, self.waits);
         self.items[at] = x;
         self.waits += 1;
-        true
+        Ok(())
     }
 
     /// Takes the oldest element.
     pub fn take(&mut self) -> Option<T>
         ensures first { result ≡ first (waiting self.old) }
         ensures rest { waiting self.new ≡ drop 1 (waiting self.old) }
-        ensures places { places self.new ≡ places self.old }
-        ensures memory { memory self.new ≡ memory self.old }
+        ensures stays { SameMemory self.old self.new }
         ensures none { result ≡ None → self.new ≡ self.old }
     {
         let size = self.items.len();
@@ -59,8 +57,7 @@ impl<'a, T: Copy> Queue<'a, T> {
     /// Lets all that waits go.
     pub fn clear(&mut self)
         ensures empty { waiting self.new ≡ [] }
-        ensures places { places self.new ≡ places self.old }
-        ensures memory { memory self.new ≡ memory self.old }
+        ensures stays { SameMemory self.old self.new }
     {
         self.waits = 0;
     }

@@ -4,10 +4,12 @@
 ghost use Rattle.std.specs.Prelude.{◌-◌, ◌≤◌, length};
 
 mod calls;
+pub mod iter;
 mod reads;
 pub mod ring;
 
 /// A ring of places, of which `waits` wait from `head` on.
+// A slice with two numbers beside it: the memory is lent, and a `VecDeque` would need the heap.
 #[derive(Drop)]
 pub struct Queue<'a, T> {
     items: &'a mut [T],

@@ -1,5 +1,5 @@
 //! What a queue tells, with nothing taken.
-ghost use Rattle.std.specs.Prelude.{◌≡◌, ◌-◌, length};
+ghost use Rattle.std.specs.Prelude.{◌≡◌, ◌-◌, ◌++◌, length};
 ghost use Rattle.queue.specs.Nth.{nth};
 ghost use Rattle.queue.specs.Waiting.{waiting, places};
 
@@ -38,5 +38,17 @@ impl<T: Copy> Queue<'_, T> {
         let items: &[T] = self.items;
         let at = place(items.len(), self.head, i);
         Some(items[at])
+    }
+}
+
+impl<T> Queue<'_, T> {
+    /// What waits in two parts, one after the other: the older one reaches to the last place or to its own end.
+    pub fn as_slices(&self) -> (&[T], &[T])
+        ensures { result.0.now ++ result.1.now ≡ waiting self.now }
+    {
+        let items: &[T] = self.items;
+        let ahead = &items[self.head..];
+        let near = self.waits.min(ahead.len());
+        (&ahead[..near], &items[..self.waits - near])
     }
 }

@@ -1,12 +1,8 @@
-use Rattle.std.proofs.Common.{◌≡◌, ◌-◌, ◌≤◌, length, take, drop}
+use Rattle.std.proofs.Common.{◌≡◌, take, drop}
 use Rattle.line.specs.Transfer.{Taken}
 use Rattle.line.proofs.drain.Given as goal
 
 abbrev pub invariant-loop-count : goal.invariant-loop-count
 invariant-loop-count g l =
-    (l.count ≤ length l.initial.buffer)
-    × (drop l.count l.buffer ≡ drop l.count l.initial.buffer)
+    (drop l.count l.buffer ≡ drop l.count l.initial.buffer)
     × Taken (g.L.Line.carried l.initial.line) (take l.count l.buffer) (g.L.Line.carried l.line)
-
-abbrev pub decreases-loop-count : goal.decreases-loop-count
-decreases-loop-count g l = length l.initial.buffer - l.count

@@ -1,4 +1,4 @@
-use Rattle.std.proofs.Common.{◌≡◌, ℕ, ◌-◌, [], drop, sym, refl, ap, ◌∙◌, arith}
+use Rattle.std.proofs.Common.{◌≡◌, ◌-◌, [], drop, sym, refl, ap, ◌∙◌, arith}
 use Rattle.std.proofs.lemmas.List.{nil_from_length}
 use Rattle.queue.specs.Nth.{first}
 use Rattle.queue.specs.Ring.{ring}
@@ -10,7 +10,7 @@ pub returns-then-self-eq0 : goal.returns-then-self-eq0
 returns-then-self-eq0 g c =
     let q = c.args.self.now in
     let nothing : waiting q ≡ [] = nil_from_length (waiting q) (omega (arith, length_waiting q)) in
-    record { first = sym (ap first nothing); rest = nothing ∙ sym (ap (drop 1) nothing); places = refl; memory = refl; none = λ _. refl }
+    record { first = sym (ap first nothing); rest = nothing ∙ sym (ap (drop 1) nothing); stays = record { places = refl; memory = refl }; none = λ _. refl }
 
 pub returns : goal.returns
 unfolding waiting places
@@ -22,7 +22,6 @@ returns g c =
     record {
       first = sym (ap first parts);
       rest = ap (λ h. ring xs h (q.waits - 1)) c.place-self.ensures ∙ sym (ap (drop 1) parts);
-      places = refl;
-      memory = refl;
-      none = λ e. let z : ◌≡◌ {A = ℕ} 0 1 = cc e in absurd (omega arith);
+      stays = record { places = refl; memory = refl };
+      none = λ e. cc;
     }
