@@ -1,4 +1,1 @@
-pub mod KeyLaws
-pub mod ReplyLaws
 pub mod SizeLaws
-pub mod WorkLaws

@@ -1,17 +1,17 @@
 -- What installing answers: the size is looked at first, then the terminator.
-use Rattle.std.specs.Prelude.{ℕ, cond, ◌&&◌, Some, None, Ok, Option, Result, refl}
+use Rattle.std.specs.Prelude.{ℕ, if◌then◌else◌, ◌&&◌, Ok, Err, Result, refl}
 use Rattle.plane.specs.Memory.{side}
 use Rattle.refusal.specs.declared.Refusal.{Refusal}
-use Rattle.refusal.specs.declared.Refusal.TheVariants.{Size, Terminator}
+use Rattle.refusal.specs.declared.Refusal.TheVariants.{Size}
 use Rattle.refusal.specs.Number.{refused}
 use Rattle.state.specs.declared.setup.Terminator.{Terminator as Ending}
 use Rattle.state.specs.declared.terminal.Terminal.{Terminal}
 use Rattle.state.specs.Setup.{numbered}
 use Rattle.state.specs.Terminal.{new}
 
-abbrev pub with_terminator : ℕ → ℕ → Option Ending → Result Terminal Refusal
-with_terminator w h (Some t) = Ok (new (record { size = record { width = w; height = h }; terminator = t }))
-with_terminator w h None = refused Terminator 3 refl
+abbrev pub with_terminator : ℕ → ℕ → Result Ending Refusal → Result Terminal Refusal
+with_terminator w h (Ok t) = Ok (new (record { size = record { width = w; height = h }; terminator = t }))
+with_terminator w h (Err r) = Err r
 
 abbrev pub installed : ℕ → ℕ → ℕ → Result Terminal Refusal
-installed w h n = cond (side w && side h) (with_terminator w h (numbered n)) (refused Size 1 refl)
+installed w h n = if side w && side h then with_terminator w h (numbered n) else refused Size 1 refl

@@ -1,3 +1,2 @@
 pub mod Install
-pub mod Reply
-pub mod Work
+pub mod Session

@@ -18,14 +18,10 @@ pub fn install(width: usize, height: usize, terminator: u8) -> Result<Terminal, 
     ensures spared { Spared }
 {
     check_size(width, height)?;
-    match Terminator::from_number(terminator) {
-        Some(terminator) => {
-            let size = Size {
-                width: width as u16,
-                height: height as u16,
-            };
-            Ok(Terminal::new(Setup { size, terminator }))
-        }
-        None => Err(Refusal::Terminator),
-    }
+    let terminator = Terminator::try_from(terminator)?;
+    let size = Size {
+        width: width as u16,
+        height: height as u16,
+    };
+    Ok(Terminal::new(Setup { size, terminator }))
 }

@@ -5,8 +5,8 @@ use Rattle.terminal.proofs.install.install.Goals as goal
 pub returns-in_err-check_size : goal.returns-in_err-check_size
 returns-in_err-check_size c = record { value = search rules; agree = agree; cut = cut; recall = recalls; spared = spared }
 
-pub returns-in-Some : goal.returns-in-Some
-returns-in-Some c = record { value = search rules; agree = agree; cut = cut; recall = recalls; spared = spared }
+pub returns-in_err-terminator : goal.returns-in_err-terminator
+returns-in_err-terminator c = record { value = search rules; agree = agree; cut = cut; recall = recalls; spared = spared }
 
-pub returns-in-None : goal.returns-in-None
-returns-in-None c = record { value = search rules; agree = agree; cut = cut; recall = recalls; spared = spared }
+pub returns : goal.returns
+returns c = record { value = search rules; agree = agree; cut = cut; recall = recalls; spared = spared }

@@ -1,6 +1,0 @@
--- What a reply in the making holds.
-use Rattle.std.specs.Prelude.{ℕ, List, take}
-use Rattle.terminal.specs.declared.reply.Reply.{Reply}
-
-abbrev pub content : Reply → List ℕ
-content r = take r.length r.bytes
