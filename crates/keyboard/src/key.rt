@@ -54,6 +54,7 @@ impl Direction {
         Direction::Left,
     ];
 
+    // By group: a cast names its enum, so a trait would want a place from each impl and be longer.
     pub(crate) fn letter(self) -> u8
         ensures { result ≡ arrow_letter self }
     {

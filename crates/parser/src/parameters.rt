@@ -14,6 +14,7 @@ pub enum Introducer {
 }
 
 /// The parameter that is read, of which a sign or a digit has come.
+// A u16, cut where it is used: with the bound as a ghost field each definition of one would hold a proof.
 #[derive(Clone, Copy, PartialEq, Eq, Debug)]
 pub struct Parameter {
     pub negative: bool,
