@@ -1,5 +1,5 @@
 -- A number's six columns, by places.
-use Rattle.std.specs.Prelude.{ℕ, suc, ◌+◌, ◌-◌, ◌/◌, ◌%◌, ◌^◌, Bool, true, false, cond, not, ◌&&◌, ◌||◌, List, [], ◌∷◌, ℤ, pos, negsuc, ◌==◌}
+use Rattle.std.specs.Prelude.{ℕ, suc, ◌+◌, ◌-◌, ◌/◌, ◌%◌, ◌^◌, Bool, true, false, if◌then◌else◌, not, ◌&&◌, ◌||◌, List, [], ◌∷◌, ℤ, pos, negsuc, ◌==◌}
 use Rattle.columns.specs.declared.number.Number.{Number}
 
 abbrev pub unsigned : ℕ → Number
@@ -19,7 +19,7 @@ written n k = k == 0 || not (n / 10 ^ k == 0)
 
 -- a minus stands directly before the first digit
 abbrev pub place : Bool → ℕ → ℕ → ℕ
-place negative n k = cond (written n k) (digit n k) (cond (negative && written n (k - 1)) 45 32)
+place negative n k = if written n k then digit n k else if negative && written n (k - 1) then 45 else 32
 
 abbrev pub field : Bool → ℕ → List ℕ
 field negative n =

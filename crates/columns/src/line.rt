@@ -1,6 +1,6 @@
 //! A line of a listing, and how it goes into a buffer.
-ghost use Rattle.std.specs.Prelude.{◌≡◌, ◌+◌, ◌<◌, ◌≤◌, ◌++◌, length, take, drop, codes};
-ghost use Rattle.columns.specs.Line.{text_of, small, answer};
+ghost use Rattle.std.specs.Prelude.{◌≡◌, ◌+◌, ◌<◌, ◌≤◌, [], ◌∷◌, ◌++◌, length, take, drop, codes};
+ghost use Rattle.columns.specs.Line.{text_of, fields, small, answer};
 
 use crate::number::Number;
 use refusal::Refusal;
@@ -11,10 +11,7 @@ pub const LENGTH: usize = 25;
 /// The four numbers of a line, from the left.
 #[derive(Clone, Copy, PartialEq, Eq, Debug)]
 pub struct Line {
-    pub first: Number,
-    pub second: Number,
-    pub third: Number,
-    pub fourth: Number,
+    pub numbers: [Number; 4],
 }
 
 impl Line {
@@ -29,19 +26,18 @@ impl Line {
         if at > buffer.len() || buffer.len() - at < LENGTH {
             return Err(Refusal::Buffer);
         }
-        buffer[at..at + LENGTH].copy_from_slice(&self.text());
+        buffer[at..at + LENGTH].copy_from_slice(&text(&self.numbers));
         Ok(at + LENGTH)
     }
+}
 
-    /// The line's bytes; LF stays last.
-    fn text(&self) -> [u8; LENGTH]
-        ensures { result ≡ text_of self.now }
-    {
-        let mut text = [b'\n'; LENGTH];
-        text[0..6].copy_from_slice(&self.first.columns());
-        text[6..12].copy_from_slice(&self.second.columns());
-        text[12..18].copy_from_slice(&self.third.columns());
-        text[18..24].copy_from_slice(&self.fourth.columns());
-        text
+/// The bytes of a line of the numbers; LF stays last.
+fn text(numbers: &[Number; 4]) -> [u8; LENGTH]
+    ensures { result ≡ fields numbers.now ++ 10 ∷ [] }
+{
+    let mut text = [b'\n'; LENGTH];
+    for (i, number) in numbers.iter().enumerate() {
+        text[6 * i..6 * i + 6].copy_from_slice(&number.columns());
     }
+    text
 }

@@ -1,5 +1,5 @@
 -- The place of each key in its group, the letter that ends its sequence, and the character engraved.
-use Rattle.std.specs.Prelude.{ℕ, cond, ◌==◌}
+use Rattle.std.specs.Prelude.{ℕ, [], ◌∷◌, slice_index_or}
 use Rattle.keyboard.specs.declared.key.Direction.{Direction}
 use Rattle.keyboard.specs.declared.key.Direction.TheVariants.{Up, Down, Right, Left}
 use Rattle.keyboard.specs.declared.key.KeypadKey.{KeypadKey}
@@ -14,7 +14,7 @@ direction_place Right = 2
 direction_place Left = 3
 
 abbrev pub direction_at : ℕ → Direction
-direction_at i = cond (i == 0) Up (cond (i == 1) Down (cond (i == 2) Right Left))
+direction_at i = slice_index_or (Up ∷ Down ∷ Right ∷ Left ∷ []) i Left
 
 -- A to D
 abbrev pub arrow_letter : Direction → ℕ
@@ -41,7 +41,7 @@ keypad_place Enter = 13
 
 abbrev pub keypad_at : ℕ → KeypadKey
 keypad_at i =
-    cond (i == 0) Zero (cond (i == 1) One (cond (i == 2) Two (cond (i == 3) Three (cond (i == 4) Four (cond (i == 5) Five (cond (i == 6) Six (cond (i == 7) Seven (cond (i == 8) Eight (cond (i == 9) Nine (cond (i == 10) Minus (cond (i == 11) Comma (cond (i == 12) Period Enter))))))))))))
+    slice_index_or (Zero ∷ One ∷ Two ∷ Three ∷ Four ∷ Five ∷ Six ∷ Seven ∷ Eight ∷ Nine ∷ Minus ∷ Comma ∷ Period ∷ Enter ∷ []) i Enter
 
 -- p to y, m, l, n and M
 abbrev pub keypad_letter : KeypadKey → ℕ
@@ -84,7 +84,7 @@ function_place Pf3 = 2
 function_place Pf4 = 3
 
 abbrev pub function_at : ℕ → FunctionKey
-function_at i = cond (i == 0) Pf1 (cond (i == 1) Pf2 (cond (i == 2) Pf3 Pf4))
+function_at i = slice_index_or (Pf1 ∷ Pf2 ∷ Pf3 ∷ Pf4 ∷ []) i Pf4
 
 -- P to S
 abbrev pub function_letter : FunctionKey → ℕ

@@ -1,8 +1,9 @@
-//! The keys by group: the place of each in its group, and the letter that ends its sequence.
+//! The keys by group, and the letter that ends the sequence of each.
 ghost use Rattle.std.specs.Prelude.{◌≡◌};
-ghost use Rattle.keyboard.specs.Key.{direction_place, direction_at, arrow_letter, keypad_place, keypad_at, keypad_letter, engraved, function_place, function_at, function_letter};
+ghost use Rattle.keyboard.specs.Key.{arrow_letter, keypad_letter, engraved, function_letter};
 
-#[derive(Clone, Copy)]
+/// An arrow. Each group's keys stand in the order of their numbers.
+#[derive(Clone, Copy, PartialEq, Eq, Debug)]
 pub enum Direction {
     Up,
     Down,
@@ -10,7 +11,7 @@ pub enum Direction {
     Left,
 }
 
-#[derive(Clone, Copy)]
+#[derive(Clone, Copy, PartialEq, Eq, Debug)]
 pub enum KeypadKey {
     Zero,
     One,
@@ -28,7 +29,7 @@ pub enum KeypadKey {
     Enter,
 }
 
-#[derive(Clone, Copy)]
+#[derive(Clone, Copy, PartialEq, Eq, Debug)]
 pub enum FunctionKey {
     Pf1,
     Pf2,
@@ -36,7 +37,7 @@ pub enum FunctionKey {
     Pf4,
 }
 
-#[derive(Clone, Copy)]
+#[derive(Clone, Copy, PartialEq, Eq, Debug)]
 pub enum Key {
     /// A key that sends one byte: the low seven bits of the code, whatever the eighth is.
     Byte { code: u8 },
@@ -46,79 +47,38 @@ pub enum Key {
 }
 
 impl Direction {
-    pub(crate) fn place(self) -> u8
-        ensures { result ≡ direction_place self }
-    {
-        match self {
-            Direction::Up => 0,
-            Direction::Down => 1,
-            Direction::Right => 2,
-            Direction::Left => 3,
-        }
-    }
+    pub(crate) const ALL: [Direction; 4] = [
+        Direction::Up,
+        Direction::Down,
+        Direction::Right,
+        Direction::Left,
+    ];
 
-    /// The arrow at the place; the last one from its place on.
-    pub(crate) fn at(place: u8) -> Direction
-        ensures { result ≡ direction_at place }
-    {
-        match place {
-            0 => Direction::Up,
-            1 => Direction::Down,
-            2 => Direction::Right,
-            _ => Direction::Left,
-        }
-    }
-
+    // By group: a cast names its enum, so a trait would want a place from each impl and be longer.
     pub(crate) fn letter(self) -> u8
         ensures { result ≡ arrow_letter self }
     {
-        b'A' + self.place()
+        b'A' + self as u8
     }
 }
 
 impl KeypadKey {
-    pub(crate) fn place(self) -> u8
-        ensures { result ≡ keypad_place self }
-    {
-        match self {
-            KeypadKey::Zero => 0,
-            KeypadKey::One => 1,
-            KeypadKey::Two => 2,
-            KeypadKey::Three => 3,
-            KeypadKey::Four => 4,
-            KeypadKey::Five => 5,
-            KeypadKey::Six => 6,
-            KeypadKey::Seven => 7,
-            KeypadKey::Eight => 8,
-            KeypadKey::Nine => 9,
-            KeypadKey::Minus => 10,
-            KeypadKey::Comma => 11,
-            KeypadKey::Period => 12,
-            KeypadKey::Enter => 13,
-        }
-    }
-
-    /// The key at the place; the last one from its place on.
-    pub(crate) fn at(place: u8) -> KeypadKey
-        ensures { result ≡ keypad_at place }
-    {
-        match place {
-            0 => KeypadKey::Zero,
-            1 => KeypadKey::One,
-            2 => KeypadKey::Two,
-            3 => KeypadKey::Three,
-            4 => KeypadKey::Four,
-            5 => KeypadKey::Five,
-            6 => KeypadKey::Six,
-            7 => KeypadKey::Seven,
-            8 => KeypadKey::Eight,
-            9 => KeypadKey::Nine,
-            10 => KeypadKey::Minus,
-            11 => KeypadKey::Comma,
-            12 => KeypadKey::Period,
-            _ => KeypadKey::Enter,
-        }
-    }
+    pub(crate) const ALL: [KeypadKey; 14] = [
+        KeypadKey::Zero,
+        KeypadKey::One,
+        KeypadKey::Two,
+        KeypadKey::Three,
+        KeypadKey::Four,
+        KeypadKey::Five,
+        KeypadKey::Six,
+        KeypadKey::Seven,
+        KeypadKey::Eight,
+        KeypadKey::Nine,
+        KeypadKey::Minus,
+        KeypadKey::Comma,
+        KeypadKey::Period,
+        KeypadKey::Enter,
+    ];
 
     /// The character engraved, and CR for ENTER.
     pub(crate) fn engraved(self) -> u8
@@ -129,7 +89,7 @@ impl KeypadKey {
             KeypadKey::Comma => b',',
             KeypadKey::Period => b'.',
             KeypadKey::Enter => b'\r',
-            digit => b'0' + digit.place(),
+            digit => b'0' + digit as u8,
         }
     }
 
@@ -142,32 +102,16 @@ impl KeypadKey {
 }
 
 impl FunctionKey {
-    pub(crate) fn place(self) -> u8
-        ensures { result ≡ function_place self }
-    {
-        match self {
-            FunctionKey::Pf1 => 0,
-            FunctionKey::Pf2 => 1,
-            FunctionKey::Pf3 => 2,
-            FunctionKey::Pf4 => 3,
-        }
-    }
-
-    /// The key at the place; the last one from its place on.
-    pub(crate) fn at(place: u8) -> FunctionKey
-        ensures { result ≡ function_at place }
-    {
-        match place {
-            0 => FunctionKey::Pf1,
-            1 => FunctionKey::Pf2,
-            2 => FunctionKey::Pf3,
-            _ => FunctionKey::Pf4,
-        }
-    }
+    pub(crate) const ALL: [FunctionKey; 4] = [
+        FunctionKey::Pf1,
+        FunctionKey::Pf2,
+        FunctionKey::Pf3,
+        FunctionKey::Pf4,
+    ];
 
     pub(crate) fn letter(self) -> u8
         ensures { result ≡ function_letter self }
     {
-        b'P' + self.place()
+        b'P' + self as u8
     }
 }

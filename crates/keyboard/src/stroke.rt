@@ -1,47 +1,56 @@
 //! A stroke of a key, and the number that stands for it.
-ghost use Rattle.std.specs.Prelude.{◌≡◌, ◌<◌, ◌≤◌, Some, MatchOption};
-ghost use Rattle.keyboard.specs.Stroke.{number_of, numbered, seven_bit};
+ghost use Rattle.std.specs.Prelude.{◌≡◌, ◌≤◌, Some};
+ghost use Rattle.keyboard.specs.Stroke.{Numbers, Decodes};
 
 use crate::key::{Direction, FunctionKey, Key, KeypadKey};
+use refusal::Refusal;
 
-#[derive(Clone, Copy)]
+#[derive(Clone, Copy, PartialEq, Eq, Debug)]
 pub struct Stroke {
     pub key: Key,
 }
 
 impl Stroke {
-    /// 0 to 127 for a byte, 128 to 131 for an arrow, 132 to 145 for the keypad, 146 to 149 for PF1 to PF4.
-    pub fn number(self) -> u8
-        ensures number { result ≡ number_of self }
-        ensures below { result ≤ 149 }
-        ensures back { numbered result ≡ Some (seven_bit self) }
-    {
-        match self.key {
+    /// What stands in a place before a stroke does.
+    pub const BLANK: Stroke = Stroke {
+        key: Key::Byte { code: 0 },
+    };
+}
+
+/// 0 to 127 for a byte, 128 to 131 for an arrow, 132 to 145 for the keypad, 146 to 149 for PF1 to PF4.
+impl From<Stroke> for u8 {
+    ghost from_gives = { Numbers };
+
+    fn from(stroke: Stroke) -> u8 {
+        match stroke.key {
             Key::Byte { code } => code % 128,
-            Key::Arrow { direction } => 128 + direction.place(),
-            Key::Keypad { key } => 132 + key.place(),
-            Key::Function { key } => 146 + key.place(),
+            Key::Arrow { direction } => 128 + direction as u8,
+            Key::Keypad { key } => 132 + key as u8,
+            Key::Function { key } => 146 + key as u8,
         }
     }
+}
 
-    /// The stroke that has the number, if any has.
-    pub fn from_number(n: u8) -> Option<Stroke>
-        ensures stroke { result ≡ numbered n }
-        ensures back { MatchOption result (149 < n) (λ s. number_of s ≡ n) }
-    {
-        let key = match n {
-            0..=127 => Key::Byte { code: n },
+/// The stroke that has the number, if any has.
+impl TryFrom<u8> for Stroke {
+    type Error = Refusal;
+
+    ghost try_from_gives = { Decodes };
+
+    fn try_from(number: u8) -> Result<Stroke, Refusal> {
+        let key = match number {
+            0..=127 => Key::Byte { code: number },
             128..=131 => Key::Arrow {
-                direction: Direction::at(n - 128),
+                direction: Direction::ALL[usize::from(number - 128)],
             },
             132..=145 => Key::Keypad {
-                key: KeypadKey::at(n - 132),
+                key: KeypadKey::ALL[usize::from(number - 132)],
             },
             146..=149 => Key::Function {
-                key: FunctionKey::at(n - 146),
+                key: FunctionKey::ALL[usize::from(number - 146)],
             },
-            _ => return None,
+            _ => return Err(Refusal::Key),
         };
-        Some(Stroke { key })
+        Ok(Stroke { key })
     }
 }

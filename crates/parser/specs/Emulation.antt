@@ -10,7 +10,5 @@ number_of Vt100 = 2
 number_of Tek4010 = 3
 
 abbrev pub is_vt52 : Emulation → Bool
-is_vt52 Native = false
 is_vt52 Vt52 = true
-is_vt52 Vt100 = false
-is_vt52 Tek4010 = false
+is_vt52 _ = false

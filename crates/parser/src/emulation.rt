@@ -2,24 +2,19 @@
 ghost use Rattle.std.specs.Prelude.{◌≡◌};
 ghost use Rattle.parser.specs.Emulation.{number_of};
 
+/// In the order of the numbers that they are reported by.
 #[derive(Clone, Copy, PartialEq, Eq, Debug)]
 pub enum Emulation {
-    Native,
-    Vt52,
-    Vt100,
-    Tek4010,
+    Native = 0,
+    Vt52 = 1,
+    Vt100 = 2,
+    Tek4010 = 3,
 }
 
-impl Emulation {
-    /// The number that the emulation is reported by.
-    pub fn number(self) -> u8
-        ensures { result ≡ number_of self }
-    {
-        match self {
-            Emulation::Native => 0,
-            Emulation::Vt52 => 1,
-            Emulation::Vt100 => 2,
-            Emulation::Tek4010 => 3,
-        }
+impl From<Emulation> for u8 {
+    ghost from_gives = { λ emulation number. number ≡ number_of emulation };
+
+    fn from(emulation: Emulation) -> u8 {
+        emulation as u8
     }
 }

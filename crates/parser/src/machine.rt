@@ -10,7 +10,7 @@ use crate::emulation::Emulation;
 use crate::parameters::{Introducer, Parameters};
 
 /// How far into a sequence the machine is.
-#[derive(Clone, Copy)]
+#[derive(Clone, Copy, PartialEq, Eq, Debug)]
 pub enum State {
     /// Outside a sequence.
     Ground,
@@ -27,7 +27,7 @@ pub enum State {
 }
 
 /// What a byte calls for, once it is parsed.
-#[derive(Clone, Copy)]
+#[derive(Clone, Copy, PartialEq, Eq, Debug)]
 pub enum Dispatch {
     Nothing,
     /// A byte 32 to 126 outside a sequence.
@@ -61,7 +61,7 @@ pub enum Dispatch {
 }
 
 /// The host's bytes may stop anywhere: the state is all that is kept between two of them.
-#[derive(Clone, Copy)]
+#[derive(Clone, Copy, PartialEq, Eq, Debug)]
 pub struct Parser {
     state: State,
 }

@@ -1,6 +1,6 @@
 //! The parameters of a control sequence, as far as they are read.
-ghost use Rattle.std.specs.Prelude.{◌≡◌, ◌≤◌};
-ghost use Rattle.parser.specs.Parameters.{fresh, grown, negated, closed, may_negate, may_mark};
+ghost use Rattle.std.specs.Prelude.{◌≡◌, ◌≤◌, Some};
+ghost use Rattle.parser.specs.Parameters.{fresh, extended, value_of, current, grown, negated, closed, may_negate, may_mark};
 
 /// What a control sequence begins with.
 #[derive(Clone, Copy, PartialEq, Eq, Debug)]
@@ -13,18 +13,51 @@ pub enum Introducer {
     Colon,
 }
 
+/// The parameter that is read, of which a sign or a digit has come.
+// A u16, cut where it is used: with the bound as a ghost field each definition of one would hold a proof.
+#[derive(Clone, Copy, PartialEq, Eq, Debug)]
+pub struct Parameter {
+    pub negative: bool,
+    pub magnitude: u16,
+}
+
 /// The parameters that are whole, and the one that is being read.
-#[derive(Clone, Copy)]
+#[derive(Clone, Copy, PartialEq, Eq, Debug)]
 pub struct Parameters {
     pub introducer: Introducer,
     /// The whole ones; 0 where none is given.
+    // Beside a length: the terminal reads a byte on a copy of the parser, and no ArrayVec is Copy.
     pub values: [i16; 8],
     /// How many are whole, up to 8.
     pub index: u8,
-    /// Whether the one that is read has a digit or a sign.
-    pub begun: bool,
-    pub negative: bool,
-    pub magnitude: u16,
+    /// None before the parameter's first sign or digit.
+    pub reading: Option<Parameter>,
+}
+
+impl Parameter {
+    /// Before a sign or a digit.
+    const BLANK: Parameter = Parameter {
+        negative: false,
+        magnitude: 0,
+    };
+
+    /// The digit joins the magnitude, which stops at 4,095.
+    fn extended(self, digit: u8) -> Parameter
+        ensures { result ≡ extended self digit }
+    {
+        let magnitude = self.magnitude.saturating_mul(10);
+        Parameter {
+            magnitude: magnitude.saturating_add(u16::from(digit)).min(4095),
+            ..self
+        }
+    }
+
+    fn value(self) -> i16
+        ensures { result ≡ value_of self }
+    {
+        let magnitude = self.magnitude.min(4095) as i16;
+        if self.negative { -magnitude } else { magnitude }
+    }
 }
 
 impl Parameters {
@@ -35,27 +68,26 @@ impl Parameters {
             introducer,
             values: [0; 8],
             index: 0,
-            begun: false,
-            negative: false,
-            magnitude: 0,
+            reading: None,
         }
     }
 
-    /// A digit joins the magnitude, which stops at 4,095.
+    /// A digit joins the parameter.
     pub(crate) fn digit(&mut self, byte: u8)
         requires { (48 ≤ byte) × (byte ≤ 57) }
         ensures { self.new ≡ grown self.old byte }
     {
-        self.begun = true;
-        self.magnitude = (self.magnitude.min(4095) * 10 + u16::from(byte - b'0')).min(4095);
+        self.reading = Some(self.current().extended(byte - b'0'));
     }
 
     /// A sign begins the parameter.
     pub(crate) fn negate(&mut self)
         ensures { self.new ≡ negated self.old }
     {
-        self.begun = true;
-        self.negative = true;
+        self.reading = Some(Parameter {
+            negative: true,
+            ..self.current()
+        });
     }
 
     /// The parameter is whole: it is kept, unless eight are.
@@ -63,26 +95,30 @@ impl Parameters {
         ensures { self.new ≡ closed self.old }
     {
         if self.index < 8 {
-            let value = self.magnitude.min(4095) as i16;
-            self.values[usize::from(self.index)] = if self.negative { -value } else { value };
+            self.values[usize::from(self.index)] = self.current().value();
             self.index += 1;
         }
-        self.begun = false;
-        self.negative = false;
-        self.magnitude = 0;
+        self.reading = None;
+    }
+
+    /// What is read of the parameter.
+    fn current(&self) -> Parameter
+        ensures { result ≡ current self.now }
+    {
+        self.reading.unwrap_or(Parameter::BLANK)
     }
 
     /// A sign stands first in a parameter, and only after ESC and `:`.
     pub(crate) fn may_negate(&self) -> bool
         ensures { result ≡ may_negate self.now }
     {
-        matches!(self.introducer, Introducer::Colon) && !self.begun
+        self.introducer == Introducer::Colon && self.reading.is_none()
     }
 
     /// The mark of a private sequence stands directly after ESC and `[`.
     pub(crate) fn may_mark(&self) -> bool
         ensures { result ≡ may_mark self.now }
     {
-        matches!(self.introducer, Introducer::Bracket) && self.index == 0 && !self.begun
+        self.introducer == Introducer::Bracket && self.index == 0 && self.reading.is_none()
     }
 }
