@@ -1,5 +1,5 @@
 -- The listing: a line for each row with ink, top first, and a last line.
-use Rattle.std.specs.Prelude.{ℕ, zero, suc, if◌then◌else◌, ◌&&◌, List, [], ◌++◌, length, drop, Some, None, Ok, Option, Result, nat_le, refl}
+use Rattle.std.specs.Prelude.{ℕ, zero, suc, if◌then◌else◌, ◌&&◌, List, [], ◌∷◌, ◌++◌, length, drop, Some, None, Ok, Option, Result, nat_le, refl}
 use Rattle.columns.specs.declared.line.Line.{Line}
 use Rattle.columns.specs.Line.{text_of, small}
 use Rattle.columns.specs.Number.{signed, unsigned}
@@ -33,12 +33,7 @@ rows p w (suc y) = row_text p w y ++ rows p w y
 
 -- x, y, emulation, region
 abbrev pub last_line : Terminal → Line
-last_line t = record {
-  first = signed t.window.position.x;
-  second = signed t.window.position.y;
-  third = unsigned (number_of t.emulation);
-  fourth = unsigned t.window.number;
-}
+last_line t = record { numbers = signed t.window.position.x ∷ signed t.window.position.y ∷ unsigned (number_of t.emulation) ∷ unsigned t.window.number ∷ [] }
 
 abbrev pub text : Terminal → Picture → List ℕ
 text t p = rows p t.setup.size.width t.setup.size.height ++ text_of (last_line t)

@@ -16,12 +16,13 @@ use state::terminal::Terminal;
 fn row_line(y: u16, ink: Ink) -> Line
     ensures { result ≡ line_of_ink y ink }
 {
-    Line {
-        first: Number::from(y),
-        second: Number::from(ink.first),
-        third: Number::from(ink.last),
-        fourth: Number::from(ink.count),
-    }
+    let numbers = [
+        Number::from(y),
+        Number::from(ink.first),
+        Number::from(ink.last),
+        Number::from(ink.count),
+    ];
+    Line { numbers }
 }
 
 // The last line: the position, the emulation and the region.
@@ -29,14 +30,15 @@ fn last_line(terminal: &Terminal) -> Line
     ensures { result ≡ closing terminal.now }
 {
     let position = terminal.window.position;
-    let emulation = terminal.emulation.number() as u16;
+    let emulation = u8::from(terminal.emulation) as u16;
     let region = terminal.window.number as u16;
-    Line {
-        first: Number::from(position.x),
-        second: Number::from(position.y),
-        third: Number::from(emulation),
-        fourth: Number::from(region),
-    }
+    let numbers = [
+        Number::from(position.x),
+        Number::from(position.y),
+        Number::from(emulation),
+        Number::from(region),
+    ];
+    Line { numbers }
 }
 
 // Writes the lines of the rows with ink, top first.

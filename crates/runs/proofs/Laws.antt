@@ -1,5 +1,5 @@
 -- The three laws over whole runs of calls.
-use Rattle.std.proofs.Common.{◌≡◌, ℕ, zero, suc, ◌+◌, Bool, false, ltb, List, [], ◌∷◌, ◌++◌, map, length, Ok, Err, Result, sym, refl, ap, ◌∙◌, ap₂, ⊎_elim, arith, length-append}
+use Rattle.std.proofs.Common.{◌≡◌, ℕ, zero, suc, ◌+◌, ◌<◌, Bool, false, ltb, List, [], ◌∷◌, ◌++◌, map, length, Some, None, Ok, Option, Err, Result, sym, refl, ap, ◌∙◌, ap₂, ⊎_elim, arith, length-append}
 use mathlib.Core.Path.{fun_ext}
 use mathlib.Core.List.{cons-ne-nil}
 use Rattle.std.proofs.lemmas.Bool.{cases_Bool, and_parts, ltb-true}
@@ -11,11 +11,11 @@ use Rattle.state.specs.declared.terminal.Terminal.{Terminal}
 use Rattle.state.specs.Event.{Event, byte, Seen, sight, reading, reply, after, replies}
 use Rattle.state.specs.Terminal.{made}
 use Rattle.runs.specs.declared.delivery.Delivery.{Delivery}
-use Rattle.runs.specs.declared.delivery.Delivery.TheVariants.{Whole, Stopped}
-use Rattle.runs.specs.Calls.{Works, none, more, Fed}
+use Rattle.line.specs.declared.shortage.Shortage.{Shortage}
+use Rattle.runs.specs.Calls.{Works, none, more, Took, Fed}
 use Rattle.runs.specs.Laws.{from_new, ByRules, SameStart, Agree, TakesFirst, recall, LikeNew, Recall, counted, DifferOnly, AddEqual, Spared, Cut}
 use Rattle.runs.specs.Run.{Run, Installed}
-use Rattle.runs.specs.Set.{Set, view}
+use Rattle.runs.specs.Set.{Set, view, refusal}
 use Rattle.runs.proofs.Confine.{unchanged, stay_alike, unseen_terminal, unseen_strokes, unseen_replies}
 use Rattle.runs.proofs.Recalling.{fresh, recalled, blank}
 use Rattle.runs.proofs.ReplyBound.{reply_fits}
@@ -77,18 +77,21 @@ no_byte none e = refl
 no_byte (more {b = b} {bs = bs} a w) e = absurd (cons-ne-nil b bs e)
 
 -- an idle line of 64 places has room for any reply
+first_taken : (s u : Set) (b : ℕ) (bs : List ℕ) (n : ℕ) (o : Option Shortage) → Sound s → s.line.waiting ≡ [] → refusal s ≡ None → Took s (b ∷ bs) n o u → 0 < n
+first_taken s u b bs n None h e free f = omega (arith, f.0)
+first_taken s u b bs (suc n) (Some short) h e free f = omega arith
+first_taken s u b bs zero (Some short) h e free f =
+    let same : u ≡ s = no_byte f.1 refl in
+    let ok = admitted s free in
+    let fits = reply_fits s.terminal s.strokes (reading s.terminal (byte b)).action (omega (arith, ok.places, h.fit)) in
+    let idle = h.lawful e in
+    let need_is : short.need ≡ length (reply (view s) (byte b)) = f.2.0 ∙ ap (λ (x : Set). length (reply (view x) (byte b))) same in
+    let room_is : short.room ≡ s.line.room = f.2.1 ∙ ap (λ (x : Set). x.line.room) same in
+    absurd (omega (arith, fits, ok.capacity, idle, need_is, room_is, f.2.2))
+
 first_fits : (s u : Set) (b : ℕ) (bs : List ℕ) (a : Result Delivery Refusal) → Sound s → s.line.waiting ≡ [] → Fed s (b ∷ bs) a u → TakesFirst a
 first_fits s u b bs (Err r) h e f = never_for_room s r f.0
-first_fits s u b bs (Ok (Whole n)) h e f = omega (arith, f.1)
-first_fits s u b bs (Ok (Stopped (suc n) need room)) h e f = omega arith
-first_fits s u b bs (Ok (Stopped zero need room)) h e f =
-    let same : u ≡ s = no_byte f.2 refl in
-    let ok = admitted s f.0 in
-    let short = reply_fits s.terminal s.strokes (reading s.terminal (byte b)).action (omega (arith, ok.places, h.fit)) in
-    let free = h.lawful e in
-    let need_is : need ≡ length (reply (view s) (byte b)) = f.3.0 ∙ ap (λ (x : Set). length (reply (view x) (byte b))) same in
-    let room_is : room ≡ s.line.room = f.3.1 ∙ ap (λ (x : Set). x.line.room) same in
-    absurd (omega (arith, short, ok.capacity, free, need_is, room_is, f.3.2))
+first_fits s u b bs (Ok d) h e f = first_taken s u b bs d.taken d.shortage h e f.0 f.1
 
 -- a run that ends with the recall bytes
 after_recall : (setup : Setup) (s s' : Set) (es : List Event) (ds : List ℕ) → Installed setup s → Run s es ds s' → (before : List Event) → es ≡ before ++ recall → LikeNew setup s'

@@ -18,7 +18,6 @@ use Rattle.state.specs.Event.{Event, Seen, reading, perform, next, after}
 use Rattle.state.specs.Step.{state_after}
 use Rattle.state.specs.Terminal.{with_parser}
 use Rattle.runs.specs.declared.delivery.Delivery.{Delivery}
-use Rattle.runs.specs.declared.delivery.Delivery.TheVariants.{Whole, Stopped}
 use Rattle.runs.specs.Calls.{Fed, Keyed, Pointed, first_of, fed_events, key_events, point_events, Call, feed, key, aim, drain}
 use Rattle.runs.specs.Run.{Run, start, call}
 use Rattle.runs.specs.Set.{Set, view, refusal}
@@ -98,8 +97,7 @@ admitted s e =
 -- a delivery with events was not refused
 sized_fed : (s t : Set) (bs : List ℕ) (a : Result Delivery Refusal) → Fed s bs a t → (fed_events bs a ≡ []) ⊎ Sized s
 sized_fed s t bs (Err r) f = inl refl
-sized_fed s t bs (Ok (Whole n)) f = inr (admitted s f.0).size
-sized_fed s t bs (Ok (Stopped n need room)) f = inr (admitted s f.0).size
+sized_fed s t bs (Ok d) f = inr (admitted s f.0).size
 
 -- the first of two reasons is none where there is none
 no_first : (o p : Option Refusal) → first_of o p ≡ None → o ≡ None

@@ -22,8 +22,8 @@ use Rattle.state.specs.Event.{Event, byte, stroke, point, Seen, reading}
 use Rattle.state.specs.Reading.{read, further, stroke_action}
 use Rattle.state.specs.Step.{strokes_after}
 use Rattle.runs.specs.declared.delivery.Delivery.{Delivery}
-use Rattle.runs.specs.declared.delivery.Delivery.TheVariants.{Whole, Stopped}
-use Rattle.runs.specs.Calls.{Acts, Works, none, more, Fed, in_gin, first_of, key_refusal, OfKey, Keyed, Pointed, place, Drained, Call, feed, key, aim, drain}
+use Rattle.line.specs.declared.shortage.Shortage.{Shortage}
+use Rattle.runs.specs.Calls.{Acts, Works, none, more, Took, Fed, in_gin, first_of, key_refusal, OfKey, Keyed, Pointed, place, Drained, Call, feed, key, aim, drain}
 use Rattle.runs.specs.Run.{Run, start, call, Installed}
 use Rattle.runs.specs.Set.{Set, refusal}
 use Rattle.runs.proofs.Choice.{whichever, some_reason}
@@ -88,10 +88,13 @@ pub sound_works : {s t : Set} {bs : List ℕ} → Works s bs t → Sound s → S
 sound_works none h = h
 sound_works (more {s} {t} {u} {b} a w) h = sound_works w (sound_byte s t b a h)
 
+sound_took : (s t : Set) (bs : List ℕ) (n : ℕ) (o : Option Shortage) → Took s bs n o t → Sound s → Sound t
+sound_took s t bs n None f h = sound_works f.1 h
+sound_took s t bs n (Some e) f h = sound_works f.1 h
+
 pub sound_fed : (s t : Set) (bs : List ℕ) (a : Result Delivery Refusal) → Fed s bs a t → Sound s → Sound t
 sound_fed s t bs (Err r) f h = sound_same s t f.1 h
-sound_fed s t bs (Ok (Whole n)) f h = sound_works f.2 h
-sound_fed s t bs (Ok (Stopped n need room)) f h = sound_works f.2 h
+sound_fed s t bs (Ok d) f h = sound_took s t bs d.taken d.shortage f.1 h
 
 -- by the stroke that has the number
 sound_stroke : (s t : Set) (n : ℕ) (o : Option Stroke) → key_refusal s n ≡ None → OfKey o (λ k. Acts s (stroke k) t) → Sound s → Sound t

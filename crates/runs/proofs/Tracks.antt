@@ -6,8 +6,8 @@ use Rattle.keyboard.specs.Stroke.{numbered}
 use Rattle.refusal.specs.declared.Refusal.{Refusal}
 use Rattle.state.specs.Event.{Event, byte, stroke, point, Seen, next, reply, after, replies}
 use Rattle.runs.specs.declared.delivery.Delivery.{Delivery}
-use Rattle.runs.specs.declared.delivery.Delivery.TheVariants.{Whole, Stopped}
-use Rattle.runs.specs.Calls.{Acts, Works, none, more, Fed, OfKey, Keyed, Pointed, place, Drained, Call, feed, key, aim, drain, fed_events, stroke_events, key_events, point_events}
+use Rattle.line.specs.declared.shortage.Shortage.{Shortage}
+use Rattle.runs.specs.Calls.{Acts, Works, none, more, Took, Fed, OfKey, Keyed, Pointed, place, Drained, Call, feed, key, aim, drain, fed_events, stroke_events, key_events, point_events}
 use Rattle.runs.specs.Run.{Run, start, call}
 use Rattle.runs.specs.Set.{Set, view}
 
@@ -69,12 +69,15 @@ tracks_works {s} none = tracks_none s s refl
 tracks_works (more {s} {t} {u} {b} {bs} a w) = tracks_then s t u (byte b ∷ []) (map byte bs) [] [] (tracks_acts s t (byte b) a) (tracks_works w)
 
 -- a delivery, by its answer
+tracks_took : (s t : Set) (bs : List ℕ) (n : ℕ) (o : Option Shortage) → Took s bs n o t → Tracks s (map byte (take n bs)) [] t
+tracks_took s t bs n None f =
+    let all : take n bs ≡ bs = ap (λ m. take m bs) f.0 ∙ take-length bs in
+    rw all (tracks_works f.1)
+tracks_took s t bs n (Some e) f = tracks_works f.1
+
 tracks_fed : (s t : Set) (bs : List ℕ) (a : Result Delivery Refusal) → Fed s bs a t → Tracks s (fed_events bs a) [] t
 tracks_fed s t bs (Err r) f = tracks_none s t f.1
-tracks_fed s t bs (Ok (Whole n)) f =
-    let all : take n bs ≡ bs = ap (λ m. take m bs) f.1 ∙ take-length bs in
-    rw all (tracks_works f.2)
-tracks_fed s t bs (Ok (Stopped n need room)) f = tracks_works f.2
+tracks_fed s t bs (Ok d) f = tracks_took s t bs d.taken d.shortage f.1
 
 -- the stroke that has the number
 tracks_stroke : (s t : Set) (o : Option Stroke) → OfKey o (λ k. Acts s (stroke k) t) → Tracks s (stroke_events o) [] t

@@ -2,6 +2,7 @@
 use Rattle.std.specs.Prelude.{◌≡◌, ℕ, ◌<◌, Bool, true, false, cond, not, ◌&&◌, ◌||◌, ◌⊎◌, List, [], ◌∷◌, map, length, take, Some, None, Ok, Err, Option, Result, nat_le, nat_lt, slice_index, refl}
 use Rattle.keyboard.specs.declared.stroke.Stroke.{Stroke}
 use Rattle.keyboard.specs.Stroke.{numbered}
+use Rattle.line.specs.declared.shortage.Shortage.{Shortage}
 use Rattle.line.specs.Transfer.{Offered, Emptied}
 use Rattle.refusal.specs.declared.Refusal.{Refusal}
 use Rattle.refusal.specs.declared.Refusal.TheVariants.{Size, Memory, Terminator, PlaneSize, Capacity, Face, Strokes, Full, Key, QueueFull, Outside, Buffer}
@@ -14,8 +15,6 @@ use Rattle.state.specs.declared.terminal.Terminal.{Terminal}
 use Rattle.state.specs.Event.{Event, byte, stroke, point, reading, perform, reply}
 use Rattle.state.specs.Reply.{reply_of}
 use Rattle.runs.specs.declared.delivery.Delivery.{Delivery}
-use Rattle.runs.specs.declared.delivery.Delivery.TheVariants.{Whole, Stopped}
-use Rattle.runs.specs.Delivery.{taken_of}
 use Rattle.runs.specs.Set.{Set, view, refusal}
 
 -- what was read worked, and its reply was one offer that the line accepted
@@ -40,14 +39,18 @@ pub data Works : Set → List ℕ → Set → Type 0 where
   more : {s t u : Set} {b : ℕ} {bs : List ℕ} → Acts s (byte b) t → Works t bs u → Works s (b ∷ bs) u
 
 -- a reply is longer than the room: what it needs, and the room that there is
-abbrev pub Exceeds : Set → Event → ℕ → ℕ → Type 0
-Exceeds s e need room = (need ≡ length (reply (view s) e)) × (room ≡ s.line.room) × (room < need)
+abbrev pub Exceeds : Set → Event → Shortage → Type 0
+Exceeds s e short = (short.need ≡ length (reply (view s) e)) × (short.room ≡ s.line.room) × (short.room < short.need)
 
--- a delivery: refused with nothing changed, whole, or stopped before the first byte whose reply exceeds the room
+-- n bytes were taken: all, or those before the first whose reply exceeds the room
+abbrev pub Took : Set → List ℕ → ℕ → Option Shortage → Set → Type 0
+Took s bs n None t = (n ≡ length bs) × Works s bs t
+Took s bs n (Some e) t = (n < length bs) × Works s (take n bs) t × Exceeds t (byte (slice_index bs n)) e
+
+-- a delivery: refused with nothing changed, or taken
 abbrev pub Fed : Set → List ℕ → Result Delivery Refusal → Set → Type 0
 Fed s bs (Err r) t = (refusal s ≡ Some r) × (t ≡ s)
-Fed s bs (Ok (Whole n)) t = (refusal s ≡ None) × (n ≡ length bs) × Works s bs t
-Fed s bs (Ok (Stopped n need room)) t = (refusal s ≡ None) × (n < length bs) × Works s (take n bs) t × Exceeds t (byte (slice_index bs n)) need room
+Fed s bs (Ok d) t = (refusal s ≡ None) × Took s bs d.taken d.shortage t
 
 abbrev pub in_gin : Gin → Bool
 in_gin Off = false
@@ -75,7 +78,7 @@ OfKey None P = ⊥
 
 -- a stroke whose reply exceeds the room
 abbrev pub KeyStopped : Set → ℕ → Refusal → Type 0
-KeyStopped s n (Full need room) = OfKey (numbered n) (λ k. Exceeds s (stroke k) need room)
+KeyStopped s n (Full need room) = OfKey (numbered n) (λ k. Exceeds s (stroke k) (record { need = need; room = room }))
 KeyStopped s n Size = ⊥
 KeyStopped s n Memory = ⊥
 KeyStopped s n Terminator = ⊥
@@ -113,7 +116,7 @@ pub record Drained (s : Set) (n : ℕ) (out : List ℕ) (t : Set) : Type 0 where
 -- the events of a call by its answer: bytes taken, a stroke or a place whose call got neither 8 nor a refusal
 abbrev pub fed_events : List ℕ → Result Delivery Refusal → List Event
 fed_events bs (Err r) = []
-fed_events bs (Ok d) = map byte (take (taken_of d) bs)
+fed_events bs (Ok d) = map byte (take d.taken bs)
 
 abbrev pub stroke_events : Option Stroke → List Event
 stroke_events (Some k) = stroke k ∷ []

@@ -1,14 +1,14 @@
 -- What a delivery is reported by.
-use Rattle.std.specs.Prelude.{ℕ}
+use Rattle.std.specs.Prelude.{ℕ, Some, None, Option}
+use Rattle.line.specs.declared.shortage.Shortage.{Shortage}
 use Rattle.refusal.specs.Number.{number_of as refusal_number}
 use Rattle.refusal.specs.declared.Refusal.TheVariants.{Full}
 use Rattle.runs.specs.declared.delivery.Delivery.{Delivery}
-use Rattle.runs.specs.declared.delivery.Delivery.TheVariants.{Whole, Stopped}
+
+-- 0, or the number of a reply without room
+abbrev pub number_by : Option Shortage → ℕ
+number_by None = 0
+number_by (Some e) = refusal_number (Full e.need e.room)
 
 abbrev pub number_of : Delivery → ℕ
-number_of (Whole taken) = 0
-number_of (Stopped taken need room) = refusal_number (Full need room)
-
-abbrev pub taken_of : Delivery → ℕ
-taken_of (Whole taken) = taken
-taken_of (Stopped taken need room) = taken
+number_of d = number_by d.shortage

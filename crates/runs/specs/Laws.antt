@@ -9,7 +9,6 @@ use Rattle.state.specs.Event.{Event, byte, Seen, sight, next, after, replies}
 use Rattle.state.specs.Terminal.{new, made}
 use Rattle.runs.specs.declared.delivery.Delivery.{Delivery}
 use Rattle.runs.specs.Calls.{Fed}
-use Rattle.runs.specs.Delivery.{taken_of}
 use Rattle.runs.specs.Run.{Run, Installed, sent}
 use Rattle.runs.specs.Set.{Set, view}
 
@@ -55,7 +54,7 @@ Cut =
 -- a delivery that is not refused took its first byte, and no refusal of it has the number 8
 abbrev pub TakesFirst : Result Delivery Refusal → Type 0
 TakesFirst (Err r) = number_of r ≡ 8 → ⊥
-TakesFirst (Ok d) = 0 < taken_of d
+TakesFirst (Ok d) = 0 < d.taken
 
 -- DC1, CAN, ESC ENQ, ESC c
 abbrev pub recall : List Event

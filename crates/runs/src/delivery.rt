@@ -1,38 +1,24 @@
 //! What a delivery of host bytes came to.
 ghost use Rattle.std.specs.Prelude.{◌≡◌};
-ghost use Rattle.runs.specs.Delivery.{number_of, taken_of};
+ghost use Rattle.runs.specs.Delivery.{number_of};
 
-#[derive(Clone, Copy)]
-pub enum Delivery {
-    /// Every byte worked.
-    Whole {
-        taken: usize,
-    },
-    /// The bytes taken have worked; the reply of the next, of `need` bytes, exceeds the line's `room`.
-    Stopped {
-        taken: usize,
-        need: usize,
-        room: usize,
-    },
+use line::shortage::Shortage;
+
+/// How many bytes have worked and, where the delivery stopped before its end, why: the next byte's reply exceeds the line's room.
+#[derive(Clone, Copy, PartialEq, Eq, Debug)]
+pub struct Delivery {
+    pub taken: usize,
+    pub shortage: Option<Shortage>,
 }
 
-impl Delivery {
-    /// The number that it is reported by: 0, or that of a reply without room.
-    pub fn number(&self) -> u8
-        ensures { result ≡ number_of self.now }
-    {
-        match self {
-            Delivery::Whole { .. } => 0,
-            Delivery::Stopped { .. } => 8,
-        }
-    }
+/// The number that it is reported by: 0, or that of a reply without room.
+impl From<Delivery> for u8 {
+    ghost from_gives = { λ d n. n ≡ number_of d };
 
-    /// How many bytes have worked.
-    pub fn taken(&self) -> usize
-        ensures { result ≡ taken_of self.now }
-    {
-        match self {
-            Delivery::Whole { taken } | Delivery::Stopped { taken, .. } => *taken,
+    fn from(delivery: Delivery) -> u8 {
+        match delivery.shortage {
+            None => 0,
+            Some(_) => 8,
         }
     }
 }

@@ -1,1 +1,4 @@
+pub mod KeyLaws
+pub mod ReplyLaws
 pub mod SizeLaws
+pub mod WorkLaws

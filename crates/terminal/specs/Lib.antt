@@ -1,2 +1,4 @@
 pub mod Install
+pub mod Reply
 pub mod Session
+pub mod Work
