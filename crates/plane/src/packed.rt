@@ -7,7 +7,9 @@ use crate::Plane;
 use crate::bits::{bit_of, with_bit};
 use crate::bytewise::{copy_in_row, join_in_row};
 use crate::memory::check_bytes;
+use crate::run::{Effect, Source};
 use refusal::Refusal;
+use std::ops::Range;
 
 // No invariant: a stride of bytes makes the width a multiple of 8, and each call looks whether the memory has room.
 // So a plane over lent memory can be held by value in another.
@@ -86,50 +88,62 @@ impl Plane for Packed<'_> {
     }
 
     fn ask(&self, x: usize, y: usize) -> Result<bool, Refusal> {
-        match self.byte_at(x, y) {
-            Some(at) => Ok(bit_of(self.memory[at] as u64, 7 - x % 8)),
-            None => Err(Refusal::Outside),
-        }
+        let at = self.byte_at(x, y).ok_or(Refusal::Outside)?;
+        Ok(bit_of(self.memory[at] as u64, 7 - x % 8))
     }
 
     fn set(&mut self, x: usize, y: usize, bit: bool) -> Result<(), Refusal> {
-        match self.byte_at(x, y) {
-            Some(at) => {
-                self.memory[at] = with_bit(self.memory[at] as u64, 7 - x % 8, bit) as u8;
-                Ok(())
-            }
-            None => Err(Refusal::Outside),
-        }
+        let at = self.byte_at(x, y).ok_or(Refusal::Outside)?;
+        self.memory[at] = with_bit(self.memory[at] as u64, 7 - x % 8, bit) as u8;
+        Ok(())
     }
 
-    fn join_run(&mut self, y: usize, x0: usize, x1: usize, zero: bool, one: bool) -> usize {
+    fn join_run(&mut self, y: usize, run: Range<usize>, effect: Effect) -> usize {
         let stride = self.stride as usize;
         let height = self.height as usize;
-        let end = x1.min(8 * stride);
-        if self.has_room() && y < height && x0 < end {
-            join_in_row(self.memory, stride, height, y, x0, end, zero, one)
+        let end = run.end.min(8 * stride);
+        if self.has_room() && y < height && run.start < end {
+            join_in_row(
+                self.memory,
+                stride,
+                height,
+                y,
+                run.start,
+                end,
+                effect.zero,
+                effect.one,
+            )
         } else {
             0
         }
     }
 
     // Whole bytes where both runs lie alike in them, and the source all inside.
-    fn copy_run(&mut self, y: usize, x0: usize, x1: usize, sy: usize, sx: usize) -> usize {
+    fn copy_run(&mut self, y: usize, run: Range<usize>, from: Source) -> usize {
         let stride = self.stride as usize;
         let height = self.height as usize;
-        let end = x1.min(8 * stride);
+        let end = run.end.min(8 * stride);
         if self.has_room()
             && y < height
-            && sy < height
-            && sy != y
-            && x0 < end
-            && x0 % 8 == sx % 8
-            && sx < 8 * stride
-            && sx + (end - x0) <= 8 * stride
+            && from.y < height
+            && from.y != y
+            && run.start < end
+            && run.start % 8 == from.x % 8
+            && from.x < 8 * stride
+            && from.x + (end - run.start) <= 8 * stride
         {
-            copy_in_row(self.memory, stride, height, y, x0, end, sy, sx)
+            copy_in_row(
+                self.memory,
+                stride,
+                height,
+                y,
+                run.start,
+                end,
+                from.y,
+                from.x,
+            )
         } else {
-            self.copy_places(y, x0, x1, sy, sx)
+            self.copy_places(y, run, from)
         }
     }
 }

@@ -84,19 +84,13 @@ impl Plane for Tiled<'_> {
     }
 
     fn ask(&self, x: usize, y: usize) -> Result<bool, Refusal> {
-        match self.tile_at(x, y) {
-            Some(at) => Ok(bit_of(self.memory[at], 8 * (y % 8) + x % 8)),
-            None => Err(Refusal::Outside),
-        }
+        let at = self.tile_at(x, y).ok_or(Refusal::Outside)?;
+        Ok(bit_of(self.memory[at], 8 * (y % 8) + x % 8))
     }
 
     fn set(&mut self, x: usize, y: usize, bit: bool) -> Result<(), Refusal> {
-        match self.tile_at(x, y) {
-            Some(at) => {
-                self.memory[at] = with_bit(self.memory[at], 8 * (y % 8) + x % 8, bit);
-                Ok(())
-            }
-            None => Err(Refusal::Outside),
-        }
+        let at = self.tile_at(x, y).ok_or(Refusal::Outside)?;
+        self.memory[at] = with_bit(self.memory[at], 8 * (y % 8) + x % 8, bit);
+        Ok(())
     }
 }

@@ -4,8 +4,8 @@ use Rattle.plane.specs.Layout.{tiles}
 use Rattle.plane.proofs.LayoutLaws.{tiles_sound, found_put}
 use Rattle.plane.proofs.tiled.TiledPlane.set.Goals as goal
 
-pub returns-in-Some : goal.returns-in-Some
-returns-in-Some c =
+pub returns : goal.returns
+returns c =
     let s = c.args.self.now in
-    let q = found_put (tiles s.across s.up) (tiles_sound s.across s.up) s.memory.now c.args.x c.args.y c.in-Some.at c.with_bit.result c.args.bit c.in-Some.ensures.value c.with_bit.ensures.bits in
+    let q = found_put (tiles s.across s.up) (tiles_sound s.across s.up) s.memory.now c.args.x c.args.y c.in_ok-at.at c.with_bit.result c.args.bit (let h = c.in_ok-at.ensures in let k = c.in_ok-at.was in search rules) c.with_bit.ensures.bits in
     record { value = sym (cond-true _ _ _ q.0); picture = q.1; same = search rules }
