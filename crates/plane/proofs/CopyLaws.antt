@@ -4,6 +4,7 @@ use Rattle.std.proofs.lemmas.Bool.{cases_lt, cases_Bool, cond-false, cond-true, 
 use Rattle.std.proofs.lemmas.Bool.Decides.{nat_tests}
 use Rattle.refusal.specs.declared.Refusal.{Refusal}
 use Rattle.plane.specs.Bits.{bit}
+use Rattle.plane.specs.Laws.{other_row}
 use Rattle.plane.specs.Layout.{rows, shown}
 use Rattle.plane.specs.Picture.{Picture, has, asked}
 use Rattle.plane.specs.Run.{on_run, mapped, filled_run, from_row, copied_run}
@@ -26,9 +27,6 @@ same_along p f g y x0 x1 same = agree p (mapped y x0 x1 f p).at (mapped y x0 x1 
             | inr far ↦ let e : on_run y x0 x1 u v ≡ false = grind (arith, nat_tests) in off u v f e ∙ sym (off u v g e)
           ]
         ]
-
-other_row : (p : Picture) (g : ℕ → Bool → Bool) (y x0 x1 u v : ℕ) → (v ≡ y → ⊥) → (mapped y x0 x1 g p).at u v ≡ p.at u v
-other_row p g y x0 x1 u v ne = grind (arith, nat_tests)
 
 -- q is p copied as far as x
 module _ (p q : Picture) (y x0 x sy sx : ℕ) (ne : sy ≡ y → ⊥) (le : x0 ≤ x) (so_far : q ≡ mapped y x0 x (from_row p x0 sy sx) p) where

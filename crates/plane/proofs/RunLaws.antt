@@ -49,6 +49,12 @@ module _ (y x0 : ℕ) (g : ℕ → Bool → Bool) (p : Picture) where
   pub cut : (x x1 e : ℕ) → e ≡ min x1 p.wide → e ≤ x → x ≤ max x0 e → mapped y x0 x g p ≡ mapped y x0 x1 g p
   cut x x1 e is ge le = agree p _ _ (λ u v. grind (arith, nat_tests))
 
+-- a further part of a run, where what is brought is told of the picture q that stood then, and does not hang on what was done
+pub further : (y x0 : ℕ) (b : Picture → ℕ → Bool → Bool) (p q r : Picture) (x a e z m n : ℕ) → ((u : ℕ) (old : Bool) → b (mapped y x0 x (b p) p) u old ≡ b p u old) → Done y x0 x (b p) p q m → Done y a e (b q) q r n → a ≡ x → e ≡ z → x0 ≤ x → x ≤ z → Done y x0 z (b p) p r (m + n)
+further y x0 b p q r x a e z m n steady d more start end le le' =
+    let same : b q ≡ b p = ap b d.picture ∙ fun_ext (λ u. fun_ext (λ old. steady u old)) in
+    longer y x0 (b p) p x z q r m n le le' d (record { picture = more.picture ∙ ap (λ t. mapped y t e (b q) q) start ∙ ap (λ f. mapped y x e f q) same; count = more.count }) end
+
 -- a run of one place
 module _ (q : Picture) (x y : ℕ) where
   one_place : (g : ℕ → Bool → Bool) → put x y (g x (q.at x y)) q ≡ mapped y x (x + 1) g q

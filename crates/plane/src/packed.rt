@@ -5,7 +5,6 @@ ghost use Rattle.plane.specs.Layout.{rows, held, held_dark, found, made_of_bytes
 
 use crate::Plane;
 use crate::bits::{bit_of, with_bit};
-use crate::bytewise::{copy_in_row, join_in_row};
 use crate::memory::check_bytes;
 use crate::run::{Effect, Source};
 use refusal::Refusal;
@@ -15,9 +14,9 @@ use std::ops::Range;
 // So a plane over lent memory can be held by value in another.
 #[derive(Drop)]
 pub struct Packed<'a> {
-    memory: &'a mut [u8],
-    stride: u16,
-    height: u16,
+    pub(crate) memory: &'a mut [u8],
+    pub(crate) stride: u16,
+    pub(crate) height: u16,
 }
 
 impl<'a> Packed<'a> {
@@ -99,20 +98,9 @@ impl Plane for Packed<'_> {
     }
 
     fn join_run(&mut self, y: usize, run: Range<usize>, effect: Effect) -> usize {
-        let stride = self.stride as usize;
-        let height = self.height as usize;
-        let end = run.end.min(8 * stride);
-        if self.has_room() && y < height && run.start < end {
-            join_in_row(
-                self.memory,
-                stride,
-                height,
-                y,
-                run.start,
-                end,
-                effect.zero,
-                effect.one,
-            )
+        let inside = run.start..run.end.min(8 * self.stride as usize);
+        if self.has_room() && y < self.height as usize && inside.start < inside.end {
+            self.change_run(y, &inside, &effect)
         } else {
             0
         }
@@ -120,28 +108,19 @@ impl Plane for Packed<'_> {
 
     // Whole bytes where both runs lie alike in them, and the source all inside.
     fn copy_run(&mut self, y: usize, run: Range<usize>, from: Source) -> usize {
-        let stride = self.stride as usize;
+        let width = 8 * self.stride as usize;
         let height = self.height as usize;
-        let end = run.end.min(8 * stride);
+        let inside = run.start..run.end.min(width);
         if self.has_room()
             && y < height
             && from.y < height
             && from.y != y
-            && run.start < end
+            && inside.start < inside.end
             && run.start % 8 == from.x % 8
-            && from.x < 8 * stride
-            && from.x + (end - run.start) <= 8 * stride
+            && from.x < width
+            && from.x + (inside.end - run.start) <= width
         {
-            copy_in_row(
-                self.memory,
-                stride,
-                height,
-                y,
-                run.start,
-                end,
-                from.y,
-                from.x,
-            )
+            self.change_run(y, &inside, &from)
         } else {
             self.copy_places(y, run, from)
         }
