@@ -1,11 +1,9 @@
 -- A run copied from another row.
-use Rattle.std.proofs.Common.{◌≡◌, ℕ, ◌+◌, ◌-◌, ◌*◌, ◌/◌, ◌%◌, ◌<◌, ◌≤◌, min, Bool, true, false, cond, ◌&&◌, ltb, leb, List, get_or, Ok, Err, sym, refl, ap, ◌∙◌, inl, inr, arith}
-use Rattle.std.proofs.lemmas.Bool.{cases_lt, cases_Bool, cond-false, cond-true, and_parts, leb-true, lt-ltb, ne_eqb}
+use Rattle.std.proofs.Common.{◌≡◌, ℕ, ◌+◌, ◌-◌, ◌<◌, ◌≤◌, min, Bool, true, false, cond, ◌&&◌, Ok, Err, sym, refl, ap, ◌∙◌, inl, inr, arith}
+use Rattle.std.proofs.lemmas.Bool.{cases_lt, cond-false, cond-true, ne_eqb}
 use Rattle.std.proofs.lemmas.Bool.Decides.{nat_tests}
 use Rattle.refusal.specs.declared.Refusal.{Refusal}
-use Rattle.plane.specs.Bits.{bit}
 use Rattle.plane.specs.Laws.{other_row}
-use Rattle.plane.specs.Layout.{rows, shown}
 use Rattle.plane.specs.Picture.{Picture, has, asked}
 use Rattle.plane.specs.Run.{on_run, mapped, filled_run, from_row, copied_run}
 use Rattle.plane.proofs.CountLaws.{no_change}
@@ -74,23 +72,3 @@ module _ (p : Picture) (y x0 sy sx : ℕ) where
 
   pub copied_apart : (x1 : ℕ) → (sy ≡ y → ⊥) → mapped y x0 x1 (from_row p x0 sy sx) p ≡ copied_run y x0 x1 sy sx p
   copied_apart x1 ne = sym (cond-false _ _ _ (ne_eqb sy y ne))
-
--- both runs begin at the same place of a byte, so a byte's places are those of the source's byte
-module _ (s h : ℕ) (m : List ℕ) (x0 sy sx : ℕ) (hs : sy < h) (hx : sx < 8 * s) (aligned : x0 % 8 ≡ sx % 8) (i : ℕ) (lt : i < 8) where
-  abbrev source : ℕ
-  source = get_or m ((h - 1 - sy) * s + sx / 8) 0
-
-  source_bit : x0 ≤ 8 * (x0 / 8) + i → (old : Bool) → from_row (shown (rows s h) m) x0 sy sx (8 * (x0 / 8) + i) old ≡ bit source (7 - i)
-  source_bit le old =
-      let t : 8 * (x0 / 8) + i - x0 + sx ≡ 8 * (sx / 8) + i = omega arith in
-      let d : (8 * (sx / 8) + i) / 8 ≡ sx / 8 = omega arith in
-      let r : (8 * (sx / 8) + i) % 8 ≡ i = omega arith in
-      let w : 8 * (sx / 8) + i < 8 * s = omega arith in
-      rw (t, lt-ltb (8 * (sx / 8) + i) (8 * s) w, lt-ltb sy h hs, d, r)
-
-  pub byte_copied : (x1 n : ℕ) (old : Bool) → bit n (7 - i) ≡ cond (leb x0 (8 * (x0 / 8) + i) && ltb (8 * (x0 / 8) + i) x1) (bit source (7 - i)) old → bit n (7 - i) ≡ cond (leb x0 (8 * (x0 / 8) + i) && ltb (8 * (x0 / 8) + i) x1) (from_row (shown (rows s h) m) x0 sy sx (8 * (x0 / 8) + i) old) old
-  byte_copied x1 n old e =
-      elim (cases_Bool (leb x0 (8 * (x0 / 8) + i) && ltb (8 * (x0 / 8) + i) x1)) [
-        | inl on ↦ e ∙ cond-true _ _ old on ∙ sym (source_bit (leb-true x0 (8 * (x0 / 8) + i) (and_parts _ _ on).0) old) ∙ sym (cond-true _ _ old on)
-        | inr off ↦ e ∙ cond-false _ _ old off ∙ sym (cond-false _ _ old off)
-      ]

@@ -57,7 +57,7 @@ further y x0 b p q r x a e z m n steady d more start end le le' =
 
 -- a run of one place
 module _ (q : Picture) (x y : ℕ) where
-  one_place : (g : ℕ → Bool → Bool) → put x y (g x (q.at x y)) q ≡ mapped y x (x + 1) g q
+  pub one_place : (g : ℕ → Bool → Bool) → put x y (g x (q.at x y)) q ≡ mapped y x (x + 1) g q
   one_place g = agree q _ _ point
     where
       point : (u v : ℕ) → (put x y (g x (q.at x y)) q).at u v ≡ (mapped y x (x + 1) g q).at u v

@@ -7,7 +7,9 @@ ghost use Rattle.plane.specs.Picture.{Picture, has, put, asked, answered};
 ghost use Rattle.plane.specs.Run.{filled_run, joined_run, copied_run, changes};
 
 mod bits;
-mod bytewise;
+pub mod cell;
+mod change;
+pub mod grid;
 pub mod memory;
 pub mod packed;
 pub mod run;
@@ -66,14 +68,7 @@ pub trait Plane {
         ensures picture { picture self.new ≡ filled_run y run.start run.end bit (picture self.old) }
         ensures count { result ≡ changes y (picture self.old) (picture self.new) }
     {
-        self.join_run(
-            y,
-            run,
-            Effect {
-                zero: bit,
-                one: bit,
-            },
-        )
+        self.join_run(y, run, Effect::to(bit))
     }
 
     /// The same as `copy_run`, place by place. A faster `copy_run` falls back on it, so no plane replaces it.

@@ -9,6 +9,17 @@ pub struct Effect {
 }
 
 impl Effect {
+    /// Each bit becomes this one.
+    pub fn to(bit: bool) -> Effect
+        ensures zero { result.zero ≡ bit }
+        ensures one { result.one ≡ bit }
+    {
+        Effect {
+            zero: bit,
+            one: bit,
+        }
+    }
+
     /// What this bit becomes.
     pub fn on(self, bit: bool) -> bool
         ensures { result ≡ (if bit then self.one else self.zero) }

@@ -1,5 +1,6 @@
-use Rattle.plane.proofs.BitLaws.{asked}
+use Rattle.std.proofs.Common.{◌/◌, ◌^◌, eqb, ap}
+use lib.Bits.{and_mask}
 use Rattle.plane.proofs.bits.bit_of.Goals as goal
 
 pub returns : goal.returns
-returns c = asked c.args.n c.args.k
+returns c = ap (λ a. eqb a 1) (and_mask (c.args.n / 2 ^ c.args.k) 1)
