@@ -41,11 +41,6 @@ at_each (suc n) f e i lt =
 pub full : (j : ℕ) → j < 8 → bit 255 j ≡ true
 full j lt = at_each 8 (bit 255) refl j lt
 
--- a law of one bit
-pub either : (c b : Bool) → cond c b b ≡ b
-either true b = refl
-either false b = refl
-
 -- a law of two bits
 pub both_bits : (P : Bool → Bool → Type 0) → P true true → P true false → P false true → P false false → (a b : Bool) → P a b
 both_bits P p q r s true true = p

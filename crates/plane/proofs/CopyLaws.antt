@@ -1,5 +1,5 @@
 -- A run copied from another row.
-use Rattle.std.proofs.Common.{◌≡◌, ℕ, ◌+◌, ◌-◌, ◌<◌, ◌≤◌, min, Bool, true, false, cond, ◌&&◌, Ok, Err, sym, refl, ap, ◌∙◌, inl, inr, arith}
+use Rattle.std.proofs.Common.{◌≡◌, ℕ, ◌+◌, ◌-◌, ◌<◌, ◌≤◌, min, Bool, false, cond, ◌&&◌, Ok, Err, sym, ap, ◌∙◌, inl, inr, arith}
 use Rattle.std.proofs.lemmas.Bool.{cases_lt, cond-false, cond-true, ne_eqb}
 use Rattle.std.proofs.lemmas.Bool.Decides.{nat_tests}
 use Rattle.refusal.specs.declared.Refusal.{Refusal}
@@ -7,7 +7,7 @@ use Rattle.plane.specs.Laws.{other_row}
 use Rattle.plane.specs.Picture.{Picture, has, asked}
 use Rattle.plane.specs.Run.{on_run, mapped, filled_run, from_row, copied_run}
 use Rattle.plane.proofs.CountLaws.{no_change}
-use Rattle.plane.proofs.RunLaws.{Done, agree, was_there, was_outside}
+use Rattle.plane.proofs.RunLaws.{Done, agree, either, was_there, was_outside}
 
 -- only what is done to the places of the run matters
 pub same_along : (p : Picture) (f g : ℕ → Bool → Bool) (y x0 x1 : ℕ) → ((u : ℕ) → x0 ≤ u → u < x1 → (old : Bool) → f u old ≡ g u old) → mapped y x0 x1 f p ≡ mapped y x0 x1 g p
@@ -28,39 +28,29 @@ same_along p f g y x0 x1 same = agree p (mapped y x0 x1 f p).at (mapped y x0 x1 
 
 -- q is p copied as far as x
 module _ (p q : Picture) (y x0 x sy sx : ℕ) (ne : sy ≡ y → ⊥) (le : x0 ≤ x) (so_far : q ≡ mapped y x0 x (from_row p x0 sy sx) p) where
-  -- the rest may be copied from q as it would be from p
-  pub rest : (x1 t : ℕ) (r : Picture) → r ≡ mapped y x x1 (from_row q x sy t) q → t ≡ x - x0 + sx → r ≡ mapped y x x1 (from_row p x0 sy sx) q
-  rest x1 t r is et = is ∙ same_along q (from_row q x sy t) (from_row p x0 sy sx) y x x1 same
-    where
-      same : (u : ℕ) → x ≤ u → u < x1 → (old : Bool) → from_row q x sy t u old ≡ from_row p x0 sy sx u old
-      same u ge lt old =
-          let e : u - x + t ≡ u - x0 + sx = omega arith in
-          rw (e, so_far, other_row p (from_row p x0 sy sx) y x0 x (u - x0 + sx) sy ne)
+  source : (s : ℕ) → asked q s sy ≡ asked p s sy
+  source s = rw (so_far, other_row p (from_row p x0 sy sx) y x0 x s sy ne)
 
   -- the answer comes first, so that what is to be shown is where it was asked
   pub one_copied : {s : ℕ} (b : Bool) → Ok b ≡ asked q s sy → s ≡ x - x0 + sx → filled_run y x (x + 1) b q ≡ mapped y x (x + 1) (from_row p x0 sy sx) q
-  one_copied {s} b e es = rest (x + 1) s (filled_run y x (x + 1) b q) (same_along q (λ _ _. b) (from_row q x sy s) y x (x + 1) same) es
+  one_copied {s} b e es = same_along q (λ _ _. b) (from_row p x0 sy sx) y x (x + 1) same
     where
-      same : (u : ℕ) → x ≤ u → u < x + 1 → (old : Bool) → b ≡ from_row q x sy s u old
+      same : (u : ℕ) → x ≤ u → u < x + 1 → (old : Bool) → b ≡ from_row p x0 sy sx u old
       same u ge lt old =
-          let f = was_there (has q s sy) b (q.at s sy) e in
-          let z : u - x + s ≡ s = omega arith in
+          let f = was_there (has p s sy) b (p.at s sy) (e ∙ source s) in
+          let z : u - x0 + sx ≡ s = omega arith in
           f.1 ∙ sym (rw z (cond-true _ _ _ f.0))
 
   pub none_copied : {s : ℕ} (f : Refusal) → Err f ≡ asked q s sy → s ≡ x - x0 + sx → Done y x (x + 1) (from_row p x0 sy sx) q q 0
   none_copied {s} f e es = record {
-    picture = rest (x + 1) s q (agree q q.at (mapped y x (x + 1) (λ _ old. old) q).at (λ u v. stays (has q u v && on_run y x (x + 1) u v) (q.at u v)) ∙ same_along q (λ _ old. old) (from_row q x sy s) y x (x + 1) same) es;
+    picture = agree q q.at (mapped y x (x + 1) (λ _ old. old) q).at (λ u v. sym (either (has q u v && on_run y x (x + 1) u v) (q.at u v))) ∙ same_along q (λ _ old. old) (from_row p x0 sy sx) y x (x + 1) same;
     count = sym (no_change y q);
   }
     where
-      stays : (t b : Bool) → b ≡ cond t b b
-      stays true b = refl
-      stays false b = refl
-
-      same : (u : ℕ) → x ≤ u → u < x + 1 → (old : Bool) → old ≡ from_row q x sy s u old
+      same : (u : ℕ) → x ≤ u → u < x + 1 → (old : Bool) → old ≡ from_row p x0 sy sx u old
       same u ge lt old =
-          let z : u - x + s ≡ s = omega arith in
-          sym (rw z (cond-false _ _ _ (was_outside (has q s sy) (q.at s sy) f e)))
+          let z : u - x0 + sx ≡ s = omega arith in
+          sym (rw z (cond-false _ _ _ (was_outside (has p s sy) (p.at s sy) f (e ∙ source s))))
 
 module _ (p : Picture) (y x0 sy sx : ℕ) where
   -- past n places there is none to change, or none to copy from

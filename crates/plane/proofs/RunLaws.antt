@@ -132,10 +132,10 @@ module _ (q : Picture) (x y : ℕ) (g : ℕ → Bool → Bool) where
     count = sym (no_change y q);
   }
 
+pub either : (c b : Bool) → cond c b b ≡ b
+either true b = refl
+either false b = refl
+
 -- where 0 and 1 become the same bit, the run is filled
 pub join_fills : (p : Picture) (y x0 x1 : ℕ) (b : Bool) → joined_run y x0 x1 b b p ≡ filled_run y x0 x1 b p
-join_fills p y x0 x1 b = agree p _ _ (λ u v. ap (λ t. cond (has p u v && on_run y x0 x1 u v) t (p.at u v)) (either (p.at u v)))
-  where
-    either : (c : Bool) → cond c b b ≡ b
-    either true = refl
-    either false = refl
+join_fills p y x0 x1 b = agree p _ _ (λ u v. ap (λ t. cond (has p u v && on_run y x0 x1 u v) t (p.at u v)) (either (p.at u v) b))

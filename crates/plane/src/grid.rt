@@ -87,7 +87,7 @@ impl<C: Cell> Plane for Grid<'_, C> {
 
     fn ask(&self, x: usize, y: usize) -> Result<bool, Refusal> {
         if x < self.width() && y < self.height() {
-            Ok(bit_of(self.eight(y, x / 8) as u64, C::place(x % 8)))
+            Ok(bit_of(self.eight(y, x / 8), C::place(x % 8)))
         } else {
             Err(Refusal::Outside)
         }

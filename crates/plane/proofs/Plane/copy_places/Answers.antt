@@ -1,15 +1,12 @@
 use Rattle.std.proofs.Common.{◌≡◌, ◌+◌, sym, ◌∙◌, add-zero, arith}
-use Rattle.std.proofs.lemmas.Bool.{cond-true, eq-eqb}
 use Rattle.plane.specs.Run.{from_row}
 use Rattle.plane.proofs.CopyLaws.{one_copied, none_copied, copy_cut, copied_apart}
 use Rattle.plane.proofs.CountLaws.{no_change, changes_most}
 use Rattle.plane.proofs.RunLaws.{Done, not_begun, one_longer}
 use Rattle.plane.proofs.Plane.copy_places.Goals as goal
 
-pub returns-then-from-y : goal.returns-then-from-y
-returns-then-from-y g c =
-    let a = c.args in
-    record { picture = sym (cond-true _ _ _ (eq-eqb a.from.y a.y c.if-from-y.true)); count = sym (no_change a.y (g.Self.Plane.picture a.self.now)) }
+pub returns-then-from-y-clause-count : goal.returns-then-from-y-clause-count
+returns-then-from-y-clause-count g c = sym (no_change c.args.y (g.Self.Plane.picture c.args.self.now))
 
 pub loop-i-init : goal.loop-i-init
 loop-i-init g c =

@@ -1,6 +1,7 @@
 use Rattle.std.proofs.Common.{sym, ◌∙◌}
 use Rattle.plane.specs.Bits.{bit}
-use Rattle.plane.proofs.BitLaws.{full, opposite, either}
+use Rattle.plane.proofs.BitLaws.{full, opposite}
+use Rattle.plane.proofs.RunLaws.{either}
 use Rattle.plane.proofs.change.EffectChange.brought.Goals as goal
 
 pub returns-in-true-true : goal.returns-in-true-true
