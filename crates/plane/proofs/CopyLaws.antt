@@ -1,13 +1,13 @@
 -- A run copied from another row.
-use Rattle.std.proofs.Common.{◌≡◌, ℕ, ◌+◌, ◌-◌, ◌<◌, ◌≤◌, min, Bool, false, cond, ◌&&◌, Ok, Err, sym, ap, ◌∙◌, inl, inr, arith}
+use Rattle.std.proofs.Common.{◌≡◌, ℕ, ◌+◌, ◌-◌, ◌<◌, ◌≤◌, min, Bool, false, cond, ◌&&◌, Ok, Err, sym, ap, ◌∙◌, inl, inr, add-zero, arith}
 use Rattle.std.proofs.lemmas.Bool.{cases_lt, cond-false, cond-true, ne_eqb}
 use Rattle.std.proofs.lemmas.Bool.Decides.{nat_tests}
 use Rattle.refusal.specs.declared.Refusal.{Refusal}
 use Rattle.plane.specs.Laws.{other_row}
 use Rattle.plane.specs.Picture.{Picture, has, asked}
-use Rattle.plane.specs.Run.{on_run, mapped, filled_run, from_row, copied_run}
+use Rattle.plane.specs.Run.{on_run, mapped, filled_run, from_row, copied_run, changes}
 use Rattle.plane.proofs.CountLaws.{no_change}
-use Rattle.plane.proofs.RunLaws.{Done, agree, either, was_there, was_outside}
+use Rattle.plane.proofs.RunLaws.{Done, agree, either, one_longer, was_there, was_outside}
 
 -- only what is done to the places of the run matters
 pub same_along : (p : Picture) (f g : ℕ → Bool → Bool) (y x0 x1 : ℕ) → ((u : ℕ) → x0 ≤ u → u < x1 → (old : Bool) → f u old ≡ g u old) → mapped y x0 x1 f p ≡ mapped y x0 x1 g p
@@ -26,14 +26,14 @@ same_along p f g y x0 x1 same = agree p (mapped y x0 x1 f p).at (mapped y x0 x1 
           ]
         ]
 
--- q is p copied as far as x
-module _ (p q : Picture) (y x0 x sy sx : ℕ) (ne : sy ≡ y → ⊥) (le : x0 ≤ x) (so_far : q ≡ mapped y x0 x (from_row p x0 sy sx) p) where
+-- q is p copied as far as x, and the next place is asked; the answer comes first, so that what is to be shown is where it was asked
+module _ (p q : Picture) (y x0 x sy sx m : ℕ) (ne : sy ≡ y → ⊥) (le : x0 ≤ x) (d : Done y x0 x (from_row p x0 sy sx) p q m) where
   source : (s : ℕ) → asked q s sy ≡ asked p s sy
-  source s = rw (so_far, other_row p (from_row p x0 sy sx) y x0 x s sy ne)
+  source s = rw (d.picture, other_row p (from_row p x0 sy sx) y x0 x s sy ne)
 
-  -- the answer comes first, so that what is to be shown is where it was asked
-  pub one_copied : {s : ℕ} (b : Bool) → Ok b ≡ asked q s sy → s ≡ x - x0 + sx → filled_run y x (x + 1) b q ≡ mapped y x (x + 1) (from_row p x0 sy sx) q
-  one_copied {s} b e es = same_along q (λ _ _. b) (from_row p x0 sy sx) y x (x + 1) same
+  pub one_copied : {s : ℕ} (b : Bool) (r : Picture) (n : ℕ) → Ok b ≡ asked q s sy → s ≡ x - x0 + sx → r ≡ filled_run y x (x + 1) b q → n ≡ changes y q r → Done y x0 (x + 1) (from_row p x0 sy sx) p r (m + n)
+  one_copied {s} b r n e es er en =
+      one_longer y x0 (from_row p x0 sy sx) p x q r m n le d (record { picture = er ∙ same_along q (λ _ _. b) (from_row p x0 sy sx) y x (x + 1) same; count = en })
     where
       same : (u : ℕ) → x ≤ u → u < x + 1 → (old : Bool) → b ≡ from_row p x0 sy sx u old
       same u ge lt old =
@@ -41,11 +41,13 @@ module _ (p q : Picture) (y x0 x sy sx : ℕ) (ne : sy ≡ y → ⊥) (le : x0 �
           let z : u - x0 + sx ≡ s = omega arith in
           f.1 ∙ sym (rw z (cond-true _ _ _ f.0))
 
-  pub none_copied : {s : ℕ} (f : Refusal) → Err f ≡ asked q s sy → s ≡ x - x0 + sx → Done y x (x + 1) (from_row p x0 sy sx) q q 0
-  none_copied {s} f e es = record {
-    picture = agree q q.at (mapped y x (x + 1) (λ _ old. old) q).at (λ u v. sym (either (has q u v && on_run y x (x + 1) u v) (q.at u v))) ∙ same_along q (λ _ old. old) (from_row p x0 sy sx) y x (x + 1) same;
-    count = sym (no_change y q);
-  }
+  pub none_copied : {s : ℕ} (f : Refusal) → Err f ≡ asked q s sy → s ≡ x - x0 + sx → Done y x0 (x + 1) (from_row p x0 sy sx) p q m
+  none_copied {s} f e es =
+      rw (← add-zero m)
+      (one_longer y x0 (from_row p x0 sy sx) p x q q m 0 le d (record {
+        picture = agree q q.at (mapped y x (x + 1) (λ _ old. old) q).at (λ u v. sym (either (has q u v && on_run y x (x + 1) u v) (q.at u v))) ∙ same_along q (λ _ old. old) (from_row p x0 sy sx) y x (x + 1) same;
+        count = sym (no_change y q);
+      }))
     where
       same : (u : ℕ) → x ≤ u → u < x + 1 → (old : Bool) → old ≡ from_row p x0 sy sx u old
       same u ge lt old =

@@ -18,36 +18,22 @@ pub overflow_add-count : goal.overflow_add-count
 overflow_add-count g c =
     let a = c.args in
     let pic = g.Self.Plane.picture in
-    let p = pic a.self.now in
     let l = c.loop-i in
-    let q = pic l.self in
-    let r = pic c.fill_run-count.new.self in
-    let x = a.run.start + l.i in
-    let f = from_row p a.run.start a.from.y a.from.x in
-    let one : Done a.y x (x + 1) f q r c.fill_run-count.result = record {
-      picture = c.fill_run-count.ensures.picture ∙ one_copied p q a.y a.run.start x a.from.y a.from.x c.if-from-y.false (omega arith) l.invariant.1.picture c.in-Ok.bit c.in-Ok.ensures (omega arith);
-      count = c.fill_run-count.ensures.count;
-    } in
-    omega (arith, (one_longer a.y a.run.start f p x q r l.count c.fill_run-count.result (omega arith) l.invariant.1 one).count, changes_most a.y p r)
+    let f = c.fill_run-count in
+    let d = one_copied (pic a.self.now) (pic l.self) a.y a.run.start (a.run.start + l.i) a.from.y a.from.x l.count c.if-from-y.false (omega arith) l.invariant.1 c.in-Ok.bit (pic f.new.self) f.result c.in-Ok.ensures (omega arith) f.ensures.picture f.ensures.count in
+    omega (arith, d.count, changes_most a.y (pic a.self.now) (pic f.new.self))
 
 pub loop-i-preserved : goal.loop-i-preserved
 loop-i-preserved g c =
     let a = c.args in
     let pic = g.Self.Plane.picture in
-    let p = pic a.self.now in
     let l = c.loop-i in
-    let q = pic l.self in
     let x = a.run.start + l.i in
-    let f = from_row p a.run.start a.from.y a.from.x in
     let next : x + 1 ≡ a.run.start + (l.i + 1) = omega arith in
     elim c.match-ask.branch [
-      | goal.in-Ok w ↦ let r = pic w.fill_run-count.new.self in
-          let one : Done a.y x (x + 1) f q r w.fill_run-count.result = record {
-            picture = w.fill_run-count.ensures.picture ∙ one_copied p q a.y a.run.start x a.from.y a.from.x c.if-from-y.false (omega arith) l.invariant.1.picture w.in-Ok.bit w.in-Ok.ensures (omega arith);
-            count = w.fill_run-count.ensures.count;
-          } in
-          (omega arith, rw (w.self-is, w.count-is, ← next) (one_longer a.y a.run.start f p x q r l.count w.fill_run-count.result (omega arith) l.invariant.1 one))
-      | goal.in_default w ↦ (omega arith, rw (w.self-is, w.count-is, ← next, ← add-zero l.count) (one_longer a.y a.run.start f p x q q l.count 0 (omega arith) l.invariant.1 (none_copied p q a.y a.run.start x a.from.y a.from.x c.if-from-y.false (omega arith) l.invariant.1.picture _ (sym w.in_default.is ∙ c.ask.ensures) (omega arith))))
+      | goal.in-Ok w ↦ let f = w.fill_run-count in
+          (omega arith, rw (w.self-is, w.count-is, ← next) (one_copied (pic a.self.now) (pic l.self) a.y a.run.start x a.from.y a.from.x l.count c.if-from-y.false (omega arith) l.invariant.1 w.in-Ok.bit (pic f.new.self) f.result w.in-Ok.ensures (omega arith) f.ensures.picture f.ensures.count))
+      | goal.in_default w ↦ (omega arith, rw (w.self-is, w.count-is, ← next) (none_copied (pic a.self.now) (pic l.self) a.y a.run.start x a.from.y a.from.x l.count c.if-from-y.false (omega arith) l.invariant.1 _ (sym w.in_default.is ∙ c.ask.ensures) (omega arith)))
     ]
 
 pub returns : goal.returns
