@@ -22,7 +22,6 @@ pub(crate) trait Change {
 
     // What is brought to the k-th eight of a row, which is `old`. Only its places in the run count.
     fn brought<C: Cell>(&self, grid: &Grid<'_, C>, run: &Range<usize>, k: usize, old: u8) -> u8
-        requires room { grid.now.across * grid.now.up ≤ length grid.now.memory.now }
         requires end { run.now.end ≤ 8 * grid.now.across }
         requires eight { (run.now.start < 8 * k + 8) × (8 * k < run.now.end) }
         requires fits { (y : ℕ) × fits self.now (C.layout grid.now.across grid.now.up) y run.now.start run.now.end }
@@ -80,13 +79,12 @@ impl<C: Cell> Grid<'_, C> {
         k: usize,
         change: &H,
     ) -> usize
-        requires room { self.now.across * self.now.up ≤ length self.now.memory.now }
         requires row { y < C.HIGH * self.now.up }
         requires order { run.now.start < run.now.end }
         requires end { run.now.end ≤ 8 * self.now.across }
         requires eight { (run.now.start < 8 * k + 8) × (8 * k < run.now.end) }
         requires fits { H.fits change.now (C.layout self.now.across self.now.up) y run.now.start run.now.end }
-        ensures kept { (self.new.across ≡ self.old.across) × (self.new.up ≡ self.old.up) × (length self.new.memory.now ≡ length self.old.memory.now) }
+        ensures kept { (self.new.across ≡ self.old.across) × (self.new.up ≡ self.old.up) }
         ensures picture { shown (C.layout self.old.across self.old.up) (C.numbers self.new.memory.now) ≡ mapped y (max run.now.start (8 * k)) (min run.now.end (8 * k + 8)) (H.becomes change.now run.now.start (shown (C.layout self.old.across self.old.up) (C.numbers self.old.memory.now))) (shown (C.layout self.old.across self.old.up) (C.numbers self.old.memory.now)) }
         ensures count { result ≡ changes y (shown (C.layout self.old.across self.old.up) (C.numbers self.old.memory.now)) (shown (C.layout self.old.across self.old.up) (C.numbers self.new.memory.now)) }
     {

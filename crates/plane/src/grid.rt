@@ -1,5 +1,5 @@
 //! A plane over a memory of numbers.
-ghost use Rattle.std.specs.Prelude.{◌≡◌, ℕ, ◌+◌, ◌*◌, ◌/◌, ◌%◌, ◌<◌, ◌≤◌, length, if◌then◌else◌, nat_le, slice_index};
+ghost use Rattle.std.specs.Prelude.{◌≡◌, ℕ, ◌+◌, ◌*◌, ◌/◌, ◌%◌, ◌<◌, ◌≤◌, length, if◌then◌else◌, slice_index};
 ghost use Rattle.plane.specs.Bits.{bit};
 ghost use Rattle.plane.specs.Layout.{held, held_dark, shown};
 ghost use Rattle.plane.specs.Memory.{fits};
@@ -12,13 +12,13 @@ use crate::run::{Effect, Source};
 use refusal::Refusal;
 use std::ops::Range;
 
-// No invariant: whole numbers make the sizes multiples of 8, and each call looks whether the memory has room.
-// So a plane over lent memory can be held by value in another.
+// Whole numbers make the sizes multiples of 8, and the memory has room for them.
 #[derive(Drop)]
 pub struct Grid<'a, C> {
     pub(crate) memory: &'a mut [C],
     pub(crate) across: u16,
     pub(crate) up: u16,
+    ghost room: { across * up ≤ length memory.now },
 }
 
 impl<'a, C: Cell> Grid<'a, C> {
@@ -45,16 +45,8 @@ impl<'a, C: Cell> Grid<'a, C> {
 }
 
 impl<C: Cell> Grid<'_, C> {
-    /// Whether the memory has room for the numbers.
-    fn has_room(&self) -> bool
-        ensures { result ≡ nat_le (self.now.across * self.now.up) (length self.now.memory.now) }
-    {
-        self.across as usize * self.up as usize <= self.memory.len()
-    }
-
     /// The k-th eight pixels of row y.
     pub(crate) fn eight(&self, y: usize, k: usize) -> u8
-        requires room { self.now.across * self.now.up ≤ length self.now.memory.now }
         requires inside { (k < self.now.across) × (y < C.HIGH * self.now.up) }
         ensures bits { (x j : ℕ) → x / 8 ≡ k → j < 8 → bit result j ≡ bit (slice_index (C.numbers self.now.memory.now) ((C.layout self.now.across self.now.up).cell x y)) (8 * (y % C.HIGH) + j) }
         ensures shown { (x : ℕ) → x / 8 ≡ k → bit result (C.place (x % 8)) ≡ (shown (C.layout self.now.across self.now.up) (C.numbers self.now.memory.now)).at x y }
@@ -70,19 +62,11 @@ impl<C: Cell> Plane for Grid<'_, C> {
     ghost dark = { λ s x y out. held_dark (C.layout s.across s.up) (C.numbers s.memory.now) x y out };
 
     fn width(&self) -> usize {
-        if self.has_room() {
-            8 * self.across as usize
-        } else {
-            0
-        }
+        8 * self.across as usize
     }
 
     fn height(&self) -> usize {
-        if self.has_room() {
-            C::HIGH * self.up as usize
-        } else {
-            0
-        }
+        C::HIGH * self.up as usize
     }
 
     fn ask(&self, x: usize, y: usize) -> Result<bool, Refusal> {

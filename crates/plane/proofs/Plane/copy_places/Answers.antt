@@ -2,7 +2,7 @@ use Rattle.std.proofs.Common.{◌≡◌, ◌+◌, sym, ◌∙◌, add-zero, arit
 use Rattle.plane.specs.Run.{from_row}
 use Rattle.plane.proofs.CopyLaws.{one_copied, none_copied, copy_cut, copied_apart}
 use Rattle.plane.proofs.CountLaws.{no_change, changes_most}
-use Rattle.plane.proofs.RunLaws.{Done, not_begun, one_longer}
+use Rattle.plane.proofs.RunLaws.{not_begun}
 use Rattle.plane.proofs.Plane.copy_places.Goals as goal
 
 pub returns-then-from-y-clause-count : goal.returns-then-from-y-clause-count

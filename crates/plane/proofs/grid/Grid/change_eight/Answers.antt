@@ -45,7 +45,7 @@ returns g c =
     let old : bit c.eight-old.result j ≡ o = c.eight-old.ensures.bits (8 * a.k) j first lj ∙ ap (λ z. bit (get_or m z 0) (low + j)) (c.index-at.ensures (8 * a.k) first) in
     taken_in x0 x1 a.k i (differ o (bit d j)) t b (f (8 * a.k + i) o) o lt (rw (c.saturating_sub.ensures, c.min.ensures) at (c.places-places.ensures i lt)) (ap (differ o) (flips_bits c.eight-old.result c.brought.result c.places-places.result j ∙ ap (λ z. differ z b && t) old) ∙ flipped_at t o b) (λ le far. c.brought.ensures i lt le far ∙ ap (f (8 * a.k + i)) old) in
     rw q.1 (record {
-      kept = (refl, refl, c.flip.ensures.length);
+      kept = (refl, refl);
       picture = eight_changed e n d here others (max x0 (8 * a.k)) (min x1 (8 * a.k + 8)) f (omega arith) (omega arith) is;
       count = sym (eight_changes e n d here others (omega (arith, and_le_r (bit_xor c.eight-old.result c.brought.result) c.places-places.result)));
     })

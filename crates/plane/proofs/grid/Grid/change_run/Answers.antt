@@ -1,10 +1,10 @@
-use Rattle.std.proofs.Common.{◌≡◌, ℕ, ◌+◌, ◌*◌, ◌/◌, ◌<◌, ◌≤◌, ◌⊎◌, max, min, Bool, List, length, refl, sym, ap, ◌∙◌, inl, inr, arith}
-use Rattle.std.proofs.lemmas.Bool.{cases_lt, leb-true}
+use Rattle.std.proofs.Common.{◌≡◌, ℕ, ◌+◌, ◌*◌, ◌/◌, ◌<◌, ◌≤◌, ◌⊎◌, max, min, Bool, List, length, refl, ap, ◌∙◌, inl, inr, arith}
+use Rattle.std.proofs.lemmas.Bool.{cases_lt}
 use Rattle.plane.specs.Layout.{Layout, shown, held}
 use Rattle.plane.specs.Picture.{Picture}
 use Rattle.plane.specs.Run.{mapped, changes}
 use Rattle.plane.proofs.CountLaws.{changes_most}
-use Rattle.plane.proofs.RoomLaws.{with_room, held_run}
+use Rattle.plane.proofs.RoomLaws.{all_given, held_run}
 use Rattle.plane.proofs.RunLaws.{Done, not_begun, further, empty}
 use Rattle.plane.proofs.grid.Grid.change_run.Given.{Over}
 use Rattle.plane.proofs.grid.Grid.change_run.Goals as goal
@@ -35,7 +35,7 @@ loop-k-init g c =
     let x0 = a.run.start in
     let p = shown (g.C.Cell.layout s.across s.up) (g.C.Cell.numbers s.memory.now) in
     let start : max x0 (min c.min.result (8 * (x0 / 8))) ≡ x0 = omega arith in
-    record { across = refl; up = refl; length = refl; done = rw start (not_begun a.y x0 (g.H.Change.becomes a.change.now x0 p) p) }
+    record { across = refl; up = refl; done = rw start (not_begun a.y x0 (g.H.Change.becomes a.change.now x0 p) p) }
 
 pub change_eight-count-requires : goal.change_eight-count-requires
 change_eight-count-requires g c =
@@ -46,13 +46,12 @@ change_eight-count-requires g c =
     let inv = c.loop-k.invariant in
     let b = g.met.C.Cell.blocks s.across s.up in
     let many = g.met.C.Cell.as_many s.memory.now in
-    let w = with_room l m l.wide c.width.result c.width.ensures (omega arith) in
-    let h = with_room l m l.high c.height.result c.height.ensures (omega arith) in
-    let end : c.min.result ≡ min a.run.end (8 * s.across) = omega (arith, w.1, b.wide) in
-    let room : s.across * s.up ≤ length s.memory.now = omega (arith, leb-true l.cells (length m) w.0, b.cells) in
+    let room : l.cells ≤ length m = omega (arith, s.room, b.cells, many) in
+    let w = c.width.ensures ∙ all_given l m l.wide room in
+    let h = c.height.ensures ∙ all_given l m l.high room in
+    let end : c.min.result ≡ min a.run.end (8 * s.across) = omega (arith, w, b.wide) in
     record {
-      room = rw (inv.across, inv.up, inv.length) room;
-      row = rw inv.up (omega (arith, h.1, b.high));
+      row = rw inv.up (omega (arith, h, b.high));
       order = omega arith;
       end = rw inv.across (omega arith);
       eight = (omega arith, omega arith);
@@ -67,8 +66,9 @@ more g c =
     let numbers = g.C.Cell.numbers in
     let l = c.loop-k in
     let eight = c.change_eight-count in
-    let w = with_room (lay s.across s.up) (numbers s.memory.now) (lay s.across s.up).wide c.width.result c.width.ensures (omega arith) in
-    let end : min a.run.end (8 * s.across) ≡ c.min.result = omega (arith, w.1, (g.met.C.Cell.blocks s.across s.up).wide) in
+    let b = g.met.C.Cell.blocks s.across s.up in
+    let w = c.width.ensures ∙ all_given (lay s.across s.up) (numbers s.memory.now) (lay s.across s.up).wide (omega (arith, s.room, b.cells, g.met.C.Cell.as_many s.memory.now)) in
+    let end : min a.run.end (8 * s.across) ≡ c.min.result = omega (arith, w, b.wide) in
     next_eight lay s.across s.up l.self.across l.self.up (numbers s.memory.now) (numbers l.self.memory.now) (numbers eight.new.self.memory.now) a.y a.run.start c.min.result l.k l.count eight.result (g.H.Change.becomes a.change.now a.run.start) l.invariant.across l.invariant.up l.invariant.done eight.ensures.picture eight.ensures.count (λ x. g.met.H.Change.steady a.change.now (lay s.across s.up) a.y a.run.start (min a.run.end (8 * s.across)) x (shown (lay s.across s.up) (numbers s.memory.now)) c.requires.fits) (omega arith, omega arith, omega arith)
 
 pub overflow_add-count : goal.overflow_add-count
@@ -81,7 +81,7 @@ pub loop-k-preserved : goal.loop-k-preserved
 loop-k-preserved g c =
     let inv = c.loop-k.invariant in
     let kept = c.change_eight-count.ensures.kept in
-    record { across = kept.0 ∙ inv.across; up = kept.1 ∙ inv.up; length = kept.2 ∙ inv.length; done = more g c }
+    record { across = kept.0 ∙ inv.across; up = kept.1 ∙ inv.up; done = more g c }
 
 pub returns : goal.returns
 returns g c =
@@ -91,9 +91,12 @@ returns g c =
     let m = g.C.Cell.numbers s.memory.now in
     let r = g.C.Cell.numbers c.loop-k.self.memory.now in
     let inv = c.loop-k.invariant in
-    let w = with_room l m l.wide c.width.result c.width.ensures (omega arith) in
-    let same : length r ≡ length m = g.met.C.Cell.as_many c.loop-k.self.memory.now ∙ inv.length ∙ sym (g.met.C.Cell.as_many s.memory.now) in
+    let b = g.met.C.Cell.blocks s.across s.up in
+    let room : l.cells ≤ length m = omega (arith, s.room, b.cells, g.met.C.Cell.as_many s.memory.now) in
+    let w = c.width.ensures ∙ all_given l m l.wide room in
+    let now = rw (inv.across, inv.up) at c.loop-k.self.room in
+    let roomy : l.cells ≤ length r = omega (arith, now, b.cells, g.met.C.Cell.as_many c.loop-k.self.memory.now) in
     let x0 = a.run.start in
     let end : max x0 (min c.min.result (8 * c.loop-k.k)) ≡ c.min.result = omega arith in
-    let d = held_run l m w.0 r a.y x0 a.run.end c.min.result c.loop-k.count (g.H.Change.becomes a.change.now x0) same (c.min.ensures ∙ ap (min a.run.end) w.1) (omega arith) (rw end at inv.done) in
+    let d = held_run l m r room roomy a.y x0 a.run.end c.min.result c.loop-k.count (g.H.Change.becomes a.change.now x0) (c.min.ensures ∙ ap (min a.run.end) w) (omega arith) (rw end at inv.done) in
     rw (inv.across, inv.up) (record { picture = d.picture; count = d.count })

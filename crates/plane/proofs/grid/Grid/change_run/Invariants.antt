@@ -1,4 +1,4 @@
-use Rattle.std.proofs.Common.{◌≡◌, ◌*◌, max, min, length}
+use Rattle.std.proofs.Common.{◌≡◌, ◌*◌, max, min}
 use Rattle.plane.specs.Layout.{shown}
 use Rattle.plane.proofs.RunLaws.{Done}
 use Rattle.plane.proofs.grid.Grid.change_run.Given as goal
@@ -10,6 +10,5 @@ invariant-loop-k g l =
     record {
       across : l.self.across ≡ s.across;
       up : l.self.up ≡ s.up;
-      length : length l.self.memory.now ≡ length s.memory.now;
       done : Done l.y l.inside.start (max l.inside.start (min l.inside.end (8 * l.k))) (g.H.Change.becomes l.change l.inside.start p) p (shown (g.C.Cell.layout s.across s.up) (g.C.Cell.numbers l.self.memory.now)) l.count;
     }
