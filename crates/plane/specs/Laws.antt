@@ -1,5 +1,5 @@
 -- The proofs of the laws of traits.
-use Rattle.std.proofs.Common.{◌≡◌, ℕ, ◌+◌, ◌-◌, ◌*◌, ◌/◌, ◌%◌, ◌<◌, ◌≤◌, Bool, cond, List, length, sym, refl, ap, ◌∙◌, arith}
+use Rattle.std.proofs.Common.{◌≡◌, ℕ, ◌+◌, ◌-◌, ◌*◌, ◌/◌, ◌%◌, ◌<◌, ◌≤◌, Bool, if◌then◌else◌, List, length, sym, refl, ap, ◌∙◌, arith}
 use Rattle.std.proofs.lemmas.Bool.Decides.{nat_tests}
 use Rattle.std.proofs.lemmas.Nat.{mul-add-lt, div-mul-add, mod-mul-add}
 use Rattle.plane.specs.Layout.{Order, Blocks, rows, tiles, held, nothing, made_of_bytes}
@@ -9,10 +9,10 @@ use Rattle.plane.specs.Run.{mapped, from_row}
 
 -- the leftmost pixel in bit 7, or in bit 0
 pub downward : Order (λ i. 7 - i)
-downward = record { below = λ i lt. omega arith; back = λ i lt. omega arith; as_many = λ f. omega arith }
+downward = record { below = λ i lt. omega arith; as_many = λ f. omega arith }
 
 pub upward : Order (λ i. i)
-upward = record { below = λ i lt. lt; back = λ i lt. refl; as_many = λ f. refl }
+upward = record { below = λ i lt. lt; as_many = λ f. refl }
 
 row_and_column : (a b c d s : ℕ) → b < s → d < s → a * s + b ≡ c * s + d → (a ≡ c) × (b ≡ d)
 row_and_column a b c d s hb hd e =
@@ -24,7 +24,6 @@ blocks_of_rows s h = record {
   high = omega arith;
   cells = refl;
   nth = λ x y. omega arith;
-  eight = λ u x y e. ap (λ t. (h - 1 - y) * s + t) e;
   inside = λ x y hx hy. mul-add-lt (h - 1 - y) s (x / 8) h (omega arith) (omega arith);
   apart = λ u v x y hu hv hx hy e f.
       let r = row_and_column (h - 1 - v) (u / 8) (h - 1 - y) (x / 8) s (omega arith) (omega arith) e in
@@ -37,7 +36,6 @@ blocks_of_tiles s r = record {
   high = refl;
   cells = refl;
   nth = λ x y. refl;
-  eight = λ u x y e. ap (λ t. y / 8 * s + t) e;
   inside = λ x y hx hy. mul-add-lt (y / 8) s (x / 8) r (omega arith) (omega arith);
   apart = λ u v x y hu hv hx hy e f.
       let q = row_and_column (v / 8) (u / 8) (y / 8) (x / 8) s (omega arith) (omega arith) e in
@@ -51,7 +49,7 @@ pub tile_tall : (0 < 8) × (8 ≤ 8)
 tile_tall = (omega arith, omega arith)
 
 -- a byte has one row of pixels
-pub bytes_made : (w h : ℕ) (m : List ℕ) → made_of_bytes w h m ≡ cond (fits w h 8 (length m)) (held (rows (w / 8) (h / 1)) m) nothing
+pub bytes_made : (w h : ℕ) (m : List ℕ) → made_of_bytes w h m ≡ (if fits w h 8 (length m) then held (rows (w / 8) (h / 1)) m else nothing)
 bytes_made w h m = let e : h / 1 ≡ h = omega arith in rw e
 
 -- a run leaves the other rows as they are

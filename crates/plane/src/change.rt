@@ -85,8 +85,8 @@ impl<C: Cell> Grid<'_, C> {
         requires eight { (run.now.start < 8 * k + 8) × (8 * k < run.now.end) }
         requires fits { H.fits change.now (C.layout self.now.across self.now.up) y run.now.start run.now.end }
         ensures kept { (self.new.across ≡ self.old.across) × (self.new.up ≡ self.old.up) }
-        ensures picture { shown (C.layout self.old.across self.old.up) (C.numbers self.new.memory.now) ≡ mapped y (max run.now.start (8 * k)) (min run.now.end (8 * k + 8)) (H.becomes change.now run.now.start (shown (C.layout self.old.across self.old.up) (C.numbers self.old.memory.now))) (shown (C.layout self.old.across self.old.up) (C.numbers self.old.memory.now)) }
-        ensures count { result ≡ changes y (shown (C.layout self.old.across self.old.up) (C.numbers self.old.memory.now)) (shown (C.layout self.old.across self.old.up) (C.numbers self.new.memory.now)) }
+        ensures picture { let p = shown (C.layout self.old.across self.old.up) (C.numbers self.old.memory.now) in shown (C.layout self.old.across self.old.up) (C.numbers self.new.memory.now) ≡ mapped y (max run.now.start (8 * k)) (min run.now.end (8 * k + 8)) (H.becomes change.now run.now.start p) p }
+        ensures count { let l = C.layout self.old.across self.old.up in result ≡ changes y (shown l (C.numbers self.old.memory.now)) (shown l (C.numbers self.new.memory.now)) }
     {
         let old = self.eight(y, k);
         let places = C::places(run.start.saturating_sub(8 * k), (run.end - 8 * k).min(8));
@@ -99,7 +99,7 @@ impl<C: Cell> Grid<'_, C> {
     /// Changes a run of row y, as far as the width, eight by eight. Answers how many bits it changed.
     pub(crate) fn change_run<H: Change>(&mut self, y: usize, run: Range<usize>, change: &H) -> usize
         requires fits { H.fits change.now (C.layout self.now.across self.now.up) y run.start (min run.end (8 * self.now.across)) }
-        ensures picture { held (C.layout self.new.across self.new.up) (C.numbers self.new.memory.now) ≡ mapped y run.start run.end (H.becomes change.now run.start (held (C.layout self.old.across self.old.up) (C.numbers self.old.memory.now))) (held (C.layout self.old.across self.old.up) (C.numbers self.old.memory.now)) }
+        ensures picture { let p = held (C.layout self.old.across self.old.up) (C.numbers self.old.memory.now) in held (C.layout self.new.across self.new.up) (C.numbers self.new.memory.now) ≡ mapped y run.start run.end (H.becomes change.now run.start p) p }
         ensures count { result ≡ changes y (held (C.layout self.old.across self.old.up) (C.numbers self.old.memory.now)) (held (C.layout self.new.across self.new.up) (C.numbers self.new.memory.now)) }
     {
         let inside = run.start..run.end.min(self.width());
