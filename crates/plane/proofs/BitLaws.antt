@@ -1,60 +1,97 @@
--- A number of which one bit is flipped.
-use Rattle.std.proofs.Common.{◌≡◌, ℕ, ◌+◌, ◌-◌, ◌/◌, ◌%◌, ◌^◌, ◌<◌, Bool, true, false, cond, not, eqb, sym, refl, ap, ◌∙◌, inl, inr, arith, pow_pos, pow-add}
-use mathlib.Core.Bool.{beq}
-use native.Mathlib.Nat.{div-eq_of_lt, div_self, mul-mod_left}
-use lib.Bits.{bit_and, bit_xor, xor_shr, xor_mod, and_mask}
-use lib.Pow.{pow-lt, shl-shr}
-use Rattle.std.proofs.lemmas.Bool.{true≢false, cases_eq, cases_order, eq-eqb, ne_eqb, cond-false}
+-- The bits of numbers that are masked, flipped and shifted.
+use Rattle.std.proofs.Common.{◌≡◌, ℕ, zero, suc, ◌+◌, ◌-◌, ◌*◌, ◌/◌, ◌%◌, ◌^◌, ◌<◌, ◌≤◌, Bool, true, false, cond, ◌&&◌, eqb, sym, refl, ap, ◌∙◌, inl, inr, arith, pow-add, pow_pos}
+use native.Mathlib.Nat.{div-eq_of_lt, mul-mod_left, mul_assoc}
+use lib.Bits.{bit_and, bit_xor, and_shr, xor_shr, and_mod, xor_mod}
+use Rattle.std.proofs.lemmas.Bool.{cases_eq, cases_lt, and_parts}
+use Rattle.std.proofs.lemmas.Nat.{shl-shr, shr-shr}
 use Rattle.plane.specs.Bits.{bit}
+use Rattle.plane.specs.Run.{differ}
 
--- what `(n >> k) & 1 == 1` tells
-pub asked : (n k : ℕ) → eqb (bit_and (n / 2 ^ k) 1) 1 ≡ bit n k
-asked n k = ap (λ a. eqb a 1) (and_mask (n / 2 ^ k) 1)
+-- two numbers below 2
+pub digits : (P : ℕ → ℕ → Type 0) → P 0 0 → P 0 1 → P 1 0 → P 1 1 → (a b : ℕ) → a < 2 → b < 2 → P a b
+digits P p q r t zero zero ha hb = p
+digits P p q r t zero (suc zero) ha hb = q
+digits P p q r t (suc zero) zero ha hb = r
+digits P p q r t (suc zero) (suc zero) ha hb = t
+digits P p q r t zero (suc (suc b)) ha hb = absurd (omega arith)
+digits P p q r t (suc zero) (suc (suc b)) ha hb = absurd (omega arith)
+digits P p q r t (suc (suc a)) b ha hb = absurd (omega arith)
 
--- the bits of a power of two
-own_bit : (k : ℕ) → 2 ^ k / 2 ^ k % 2 ≡ 1
-own_bit k = let p : 0 < 2 ^ k = pow_pos k in rw (div_self p)
+pub bit_of_and : (a b j : ℕ) → bit (bit_and a b) j ≡ (bit a j && bit b j)
+bit_of_and a b j =
+    ap (λ t. eqb t 1) (ap (λ t. t % 2) (and_shr a b j) ∙ and_mod (a / 2 ^ j) (b / 2 ^ j) 1)
+    ∙ digits (λ c d. eqb (bit_and c d) 1 ≡ (eqb c 1 && eqb d 1)) refl refl refl refl (a / 2 ^ j % 2) (b / 2 ^ j % 2) (omega arith) (omega arith)
 
-lower_bit : (j d : ℕ) → 2 ^ (d + 1 + j) / 2 ^ j % 2 ≡ 0
-lower_bit j d = rw (pow-add 2 (d + 1) j, shl-shr (2 ^ (d + 1)) j, pow-add 2 d 1) (mul-mod_left (2 ^ d) 2)
+pub bit_of_xor : (a b j : ℕ) → bit (bit_xor a b) j ≡ differ (bit a j) (bit b j)
+bit_of_xor a b j =
+    ap (λ t. eqb t 1) (ap (λ t. t % 2) (xor_shr a b j) ∙ xor_mod (a / 2 ^ j) (b / 2 ^ j) 1)
+    ∙ digits (λ c d. eqb (bit_xor c d) 1 ≡ differ (eqb c 1) (eqb d 1)) refl refl refl refl (a / 2 ^ j % 2) (b / 2 ^ j % 2) (omega arith) (omega arith)
 
-other_bit : (k j : ℕ) → (j ≡ k → ⊥) → 2 ^ k / 2 ^ j % 2 ≡ 0
-other_bit k j ne =
-    elim (cases_order j k) [
-      | inl e ↦ absurd (ne e)
-      | inr o ↦ elim o [
-        | inl lt ↦ let e : k ≡ (k - j - 1) + 1 + j = omega arith in rw (ap (λ n. 2 ^ n) e) (lower_bit j (k - j - 1))
-        | inr gt ↦ let p : 2 ^ k < 2 ^ j = pow-lt gt in rw (div-eq_of_lt p)
+-- a law of a few small numbers is computed for each
+abbrev pub all_below : ℕ → (ℕ → Bool) → Bool
+all_below zero f = true
+all_below (suc n) f = f n && all_below n f
+
+pub at_each : (n : ℕ) (f : ℕ → Bool) → all_below n f ≡ true → (i : ℕ) → i < n → f i ≡ true
+at_each zero f e i lt = absurd (omega arith)
+at_each (suc n) f e i lt =
+    let q = and_parts (f n) (all_below n f) e in
+    elim (cases_eq i n) [ inl s ↦ rw s q.0 | inr ne ↦ at_each n f q.1 i (omega arith) ]
+
+pub full : (j : ℕ) → j < 8 → bit 255 j ≡ true
+full j lt = at_each 8 (bit 255) refl j lt
+
+-- a law of two bits
+pub both_bits : (P : Bool → Bool → Type 0) → P true true → P true false → P false true → P false false → (a b : Bool) → P a b
+both_bits P p q r s true true = p
+both_bits P p q r s true false = q
+both_bits P p q r s false true = r
+both_bits P p q r s false false = s
+
+pub opposite : (old j : ℕ) → j < 8 → bit (bit_xor old 255) j ≡ cond (bit old j) false true
+opposite old j lt =
+    bit_of_xor old 255 j ∙ ap (differ (bit old j)) (full j lt) ∙ both_bits (λ a _. differ a true ≡ cond a false true) refl refl refl refl (bit old j) true
+
+-- eight bits of a number, from bit f on
+pub bit_of_part : (n f j : ℕ) → j < 8 → bit (bit_and (n / 2 ^ f) 255) j ≡ bit n (f + j)
+bit_of_part n f j lt =
+    bit_of_and (n / 2 ^ f) 255 j ∙ ap (λ t. bit (n / 2 ^ f) j && t) (full j lt) ∙ both_bits (λ a _. (a && true) ≡ a) refl refl refl refl (bit (n / 2 ^ f) j) true ∙ ap (λ t. eqb (t % 2) 1) (shr-shr n f j)
+
+pub bit_of_shifted : (d f j : ℕ) → bit (d * 2 ^ f) (f + j) ≡ bit d j
+bit_of_shifted d f j = ap (λ t. eqb (t % 2) 1) (sym (shr-shr (d * 2 ^ f) f j) ∙ ap (λ t. t / 2 ^ j) (shl-shr d f))
+
+-- eight bits that are shifted by f leave the others 0
+pub bit_outside : (d f j : ℕ) → d < 256 → (f ≤ j → j < f + 8 → ⊥) → bit (d * 2 ^ f) j ≡ false
+bit_outside d f j fits out =
+    elim (cases_lt j f) [
+      | inl lt ↦ let e : f ≡ f - j - 1 + 1 + j = omega arith in
+          ap (λ t. bit (d * 2 ^ t) j) e ∙ ap (λ t. eqb t 1) (below (f - j - 1))
+      | inr ge ↦ elim (cases_lt j (f + 8)) [
+        | inl inside ↦ absurd (out ge inside)
+        | inr past ↦ let e : j ≡ f + (8 + (j - f - 8)) = omega arith in
+            ap (bit (d * 2 ^ f)) e ∙ bit_of_shifted d f (8 + (j - f - 8)) ∙ ap (λ t. eqb (t % 2) 1) (above (j - f - 8))
       ]
     ]
-
-xor_bit : (n k j : ℕ) → bit_xor n (2 ^ k) / 2 ^ j % 2 ≡ bit_xor (n / 2 ^ j % 2) (2 ^ k / 2 ^ j % 2)
-xor_bit n k j = ap (λ a. a % 2) (xor_shr n (2 ^ k) j) ∙ xor_mod (n / 2 ^ j) (2 ^ k / 2 ^ j) 1
-
-below_two : (P : ℕ → Type 0) → P 0 → P 1 → (r : ℕ) → r < 2 → P r
-below_two P p q r h =
-    elim (cases_eq r 1) [ inl e ↦ rw e q | inr ne ↦ let z : r ≡ 0 = omega arith in rw z p ]
-
-flipped_here : (n k : ℕ) → bit (bit_xor n (2 ^ k)) k ≡ not (bit n k)
-flipped_here n k =
-    rw (xor_bit n k k, own_bit k)
-    (below_two (λ r. eqb (bit_xor r 1) 1 ≡ not (eqb r 1)) refl refl (n / 2 ^ k % 2) (omega arith))
-
-flipped_elsewhere : (n k j : ℕ) → (j ≡ k → ⊥) → bit (bit_xor n (2 ^ k)) j ≡ bit n j
-flipped_elsewhere n k j ne =
-    rw (xor_bit n k j, other_bit k j ne)
-    (below_two (λ r. eqb (bit_xor r 0) 1 ≡ eqb r 1) refl refl (n / 2 ^ j % 2) (omega arith))
-
--- a flip where the bit was r, other than b, puts b there
-pub flipped : (n k : ℕ) (r b : Bool) → r ≡ bit n k → beq r b ≡ false → (j : ℕ) → bit (bit_xor n (2 ^ k)) j ≡ cond (eqb j k) b (bit n j)
-flipped n k r b is ne j =
-    elim (cases_eq j k) [
-      | inl e ↦ rw (e, eq-eqb k k refl) (flipped_here n k ∙ ap not (sym is) ∙ other r b ne)
-      | inr f ↦ flipped_elsewhere n k j f ∙ sym (cond-false (eqb j k) b (bit n j) (ne_eqb j k f))
-    ]
   where
-    other : (r b : Bool) → beq r b ≡ false → not r ≡ b
-    other true true n = absurd (true≢false n)
-    other true false n = refl
-    other false true n = refl
-    other false false n = absurd (true≢false n)
+    below : (a : ℕ) → d * 2 ^ (a + 1 + j) / 2 ^ j % 2 ≡ 0
+    below a =
+        let e : d * 2 ^ (a + 1 + j) ≡ d * 2 ^ a * 2 * 2 ^ j = rw (pow-add 2 (a + 1) j, pow-add 2 a 1) (simp mul_assoc) in
+        rw (e, shl-shr (d * 2 ^ a * 2) j) (mul-mod_left (d * 2 ^ a) 2)
+
+    above : (a : ℕ) → d / 2 ^ (8 + a) ≡ 0
+    above a =
+        let e : d / 2 ^ 8 ≡ 0 = omega arith in
+        sym (shr-shr d 8 a) ∙ ap (λ t. t / 2 ^ a) e ∙ div-eq_of_lt (pow_pos a)
+
+pub stays : (a b : Bool) → b ≡ false → differ a b ≡ a
+stays true b e = rw e
+stays false b e = e
+
+-- what is flipped where a byte is to become another, at the ones of a mask
+pub flips_bits : (old new mask j : ℕ) → bit (bit_and (bit_xor old new) mask) j ≡ (differ (bit old j) (bit new j) && bit mask j)
+flips_bits old new mask j =
+    bit_of_and (bit_xor old new) mask j ∙ ap (λ t. t && bit mask j) (bit_of_xor old new j)
+
+pub flipped_at : (m a s : Bool) → differ a (differ a s && m) ≡ cond m s a
+flipped_at true = both_bits (λ a s. differ a (differ a s && true) ≡ s) refl refl refl refl
+flipped_at false = both_bits (λ a s. differ a (differ a s && false) ≡ a) refl refl refl refl

@@ -1,41 +1,15 @@
--- Whole bytes: their bits, and what a write to one byte of a row does to the picture.
-use Rattle.std.proofs.Common.{◌≡◌, ℕ, zero, suc, ◌+◌, ◌-◌, ◌*◌, ◌/◌, ◌%◌, ◌^◌, ◌<◌, ◌≤◌, Bool, false, cond, ◌&&◌, ◌||◌, eqb, ltb, leb, List, length, get_or, set, sym, refl, ap, ◌∙◌, inl, inr, pow-suc, one-add, arith, get_or-set_other, get_or-set_same}
-use lib.Bits.{bit_and, bit_or, bit_xor, and_shr, or_shr, xor_shr, and_mod, or_mod, xor_mod, xor_lt}
+-- The bits of bytes counted, and what a change of eight pixels in a row does to the picture.
+use Rattle.std.proofs.Common.{◌≡◌, ℕ, zero, suc, ◌+◌, ◌*◌, ◌/◌, ◌%◌, ◌^◌, ◌<◌, ◌≤◌, Bool, true, false, cond, ◌&&◌, eqb, ltb, leb, List, length, get_or, set, sym, refl, ap, ◌∙◌, inl, inr, pow-suc, one-add, arith, get_or-set_other, get_or-set_same}
 use lib.Count.{ones, ones_step}
-use Rattle.std.proofs.lemmas.Nat.{mul-add-lt, shr-shr}
+use Rattle.std.proofs.lemmas.Nat.{shr-shr}
 use Rattle.std.proofs.lemmas.Bool.{cases_eq, cases_lt, eq-eqb, lt-ltb, le-ltb, cond-false}
 use Rattle.std.proofs.lemmas.Bool.Decides.{nat_tests}
 use Rattle.plane.specs.Bits.{bit}
-use Rattle.plane.specs.Layout.{rows, shown}
+use Rattle.plane.specs.Layout.{Layout, Order, Blocks, shown}
 use Rattle.plane.specs.Run.{on_run, mapped, differ, how_many, changes}
+use Rattle.plane.proofs.BitLaws.{digits}
 use Rattle.plane.proofs.CountLaws.{in_two_parts, only_these, same_number, same_bit}
-use Rattle.plane.proofs.LayoutLaws.{row_and_column}
 use Rattle.plane.proofs.RunLaws.{agree}
-
--- two numbers below 2
-digits : (P : ℕ → ℕ → Type 0) → P 0 0 → P 0 1 → P 1 0 → P 1 1 → (a b : ℕ) → a < 2 → b < 2 → P a b
-digits P p q r t zero zero ha hb = p
-digits P p q r t zero (suc zero) ha hb = q
-digits P p q r t (suc zero) zero ha hb = r
-digits P p q r t (suc zero) (suc zero) ha hb = t
-digits P p q r t zero (suc (suc b)) ha hb = absurd (omega arith)
-digits P p q r t (suc zero) (suc (suc b)) ha hb = absurd (omega arith)
-digits P p q r t (suc (suc a)) b ha hb = absurd (omega arith)
-
-pub bit_of_and : (a b j : ℕ) → bit (bit_and a b) j ≡ (bit a j && bit b j)
-bit_of_and a b j =
-    ap (λ t. eqb t 1) (ap (λ t. t % 2) (and_shr a b j) ∙ and_mod (a / 2 ^ j) (b / 2 ^ j) 1)
-    ∙ digits (λ c d. eqb (bit_and c d) 1 ≡ (eqb c 1 && eqb d 1)) refl refl refl refl (a / 2 ^ j % 2) (b / 2 ^ j % 2) (omega arith) (omega arith)
-
-pub bit_of_or : (a b j : ℕ) → bit (bit_or a b) j ≡ (bit a j || bit b j)
-bit_of_or a b j =
-    ap (λ t. eqb t 1) (ap (λ t. t % 2) (or_shr a b j) ∙ or_mod (a / 2 ^ j) (b / 2 ^ j) 1)
-    ∙ digits (λ c d. eqb (bit_or c d) 1 ≡ (eqb c 1 || eqb d 1)) refl refl refl refl (a / 2 ^ j % 2) (b / 2 ^ j % 2) (omega arith) (omega arith)
-
-pub bit_of_xor : (a b j : ℕ) → bit (bit_xor a b) j ≡ differ (bit a j) (bit b j)
-bit_of_xor a b j =
-    ap (λ t. eqb t 1) (ap (λ t. t % 2) (xor_shr a b j) ∙ xor_mod (a / 2 ^ j) (b / 2 ^ j) 1)
-    ∙ digits (λ c d. eqb (bit_xor c d) 1 ≡ differ (eqb c 1) (eqb d 1)) refl refl refl refl (a / 2 ^ j % 2) (b / 2 ^ j % 2) (omega arith) (omega arith)
 
 -- `count_ones` counts bits
 ones_zero : ones 0 ≡ 0
@@ -55,75 +29,108 @@ ones_bits (suc d) n h =
     lowest : (n : ℕ) → cond (bit n 0) 1 0 ≡ n % 2
     lowest n = rw (whole n) (digits (λ c _. cond (eqb c 1) 1 0 ≡ c) refl refl refl refl (n % 2) 0 (omega arith) (omega arith))
 
--- a byte's places go down from bit 7
-down_from_seven : (f : ℕ → Bool) → how_many (λ i. f (7 - i)) 8 ≡ how_many f 8
-down_from_seven f = omega arith
+-- the k-th eight of row y, which lies in number `at` of a memory that has room for s by r numbers of h rows each
+pub record Eight (h : ℕ) (place : ℕ → ℕ) (s r : ℕ) (l : Layout) (m : List ℕ) (y k at : ℕ) : Type 0 where
+  pub blocks : Blocks h place s r l
+  pub order : Order place
+  pub some : 0 < h
+  pub room : s * r ≤ length m
+  pub row : y < h * r
+  pub column : k < s
+  pub is_at : (x : ℕ) → x / 8 ≡ k → l.cell x y ≡ at
 
-ones_differ : (a b : ℕ) → a < 256 → b < 256 → how_many (λ i. differ (bit a (7 - i)) (bit b (7 - i))) 8 ≡ ones (bit_xor a b)
-ones_differ a b ha hb =
-    same_number _ _ 8 (λ i lt. sym (bit_of_xor a b (7 - i))) ∙ down_from_seven (bit (bit_xor a b)) ∙ sym (ones_bits 8 (bit_xor a b) (xor_lt 8 a b ha hb))
+and_true : (t : Bool) → t ≡ (t && true)
+and_true true = refl
+and_true false = refl
 
--- byte k of row y, in memory with room
-module _ (s h : ℕ) (m : List ℕ) (y k : ℕ) (room : s * h ≤ length m) (hy : y < h) (hk : k < s) where
-  pub in_room : (h - 1 - y) * s + k < length m
-  in_room = omega (arith, mul-add-lt (h - 1 - y) s k h (omega arith) hk)
+module _ {h : ℕ} {place : ℕ → ℕ} {s r : ℕ} {l : Layout} {m : List ℕ} {y k at : ℕ} (e : Eight h place s r l m y k at) where
+  pub in_room : at < length m
+  in_room =
+      let ek : 8 * k / 8 ≡ k = omega arith in
+      omega (arith, e.is_at (8 * k) ek, e.blocks.cells, e.blocks.inside (8 * k) y (omega (arith, e.blocks.wide)) (omega (arith, e.blocks.high)))
 
-  -- n is written there
-  module _ (n : ℕ) where
+  abbrev was : ℕ
+  was = get_or m at 0
+
+  abbrev low : ℕ
+  low = 8 * (y % h)
+
+  -- the eight as a byte
+  pub eight_shown : (b : ℕ) → ((j : ℕ) → j < 8 → bit b j ≡ bit was (low + j)) → (x : ℕ) → x / 8 ≡ k → bit b (place (x % 8)) ≡ (shown l m).at x y
+  eight_shown b is x ex =
+      let hx : x < l.wide = omega (arith, e.blocks.wide) in
+      let hv : y < l.high = omega (arith, e.blocks.high) in
+      rw (lt-ltb x l.wide hx, lt-ltb y l.high hv, e.is_at x ex, e.blocks.nth x y) (is (place (x % 8)) (e.order.below (x % 8) (omega arith)))
+
+  -- n is written there, with the bits d of the eight flipped
+  module _ (n d : ℕ) (here : (j : ℕ) → j < 8 → bit n (low + j) ≡ differ (bit was (low + j)) (bit d j)) (others : (j : ℕ) → j < 8 * h → (j / 8 ≡ y % h → ⊥) → bit n j ≡ bit was j) where
     abbrev written : List ℕ
-    written = set m ((h - 1 - y) * s + k) n
+    written = set m at n
 
-    abbrev was : ℕ
-    was = get_or m ((h - 1 - y) * s + k) 0
+    -- a bit of the same number in the same row is one of the eight
+    the_same : (u v : ℕ) → u < l.wide → v < l.high → l.cell u v ≡ at → l.nth u v / 8 ≡ y % h → (u / 8 ≡ k) × (v ≡ y)
+    the_same u v hu hv ec same =
+        let x = 8 * k + u % 8 in
+        let ex : x / 8 ≡ k = omega arith in
+        let em : x % 8 ≡ u % 8 = omega arith in
+        let nx : l.nth x y ≡ low + place (u % 8) = e.blocks.nth x y ∙ ap (λ t. low + place t) em in
+        let q = e.blocks.apart u v x y hu hv (omega (arith, e.blocks.wide)) (omega (arith, e.blocks.high)) (ec ∙ sym (e.is_at x ex)) (omega (arith, e.blocks.nth u v, nx, e.order.below (u % 8) (omega arith))) in
+        (omega (arith, q.0), q.1)
 
-    abbrev cell : ℕ → ℕ → ℕ
-    cell u v = (h - 1 - v) * s + u / 8
-
-    elsewhere : (u v : ℕ) → u < 8 * s → v < h → ((u / 8 ≡ k) × (v ≡ y) → ⊥) → get_or written (cell u v) 0 ≡ get_or m (cell u v) 0
+    elsewhere : (u v : ℕ) → u < l.wide → v < l.high → ((u / 8 ≡ k) × (v ≡ y) → ⊥) → bit (get_or written (l.cell u v) 0) (l.nth u v) ≡ bit (get_or m (l.cell u v) 0) (l.nth u v)
     elsewhere u v hu hv ne =
-        get_or-set_other m ((h - 1 - y) * s + k) (cell u v) n 0 (λ e. let r = row_and_column (h - 1 - v) (u / 8) (h - 1 - y) k s (omega arith) hk e in ne (r.1, omega arith))
+        elim (cases_eq (l.cell u v) at) [
+          | inl ec ↦ rw (ec, get_or-set_same m at n 0 in_room) (others (l.nth u v) (omega (arith, e.blocks.nth u v, e.order.below (u % 8) (omega arith))) (λ same. ne (the_same u v hu hv ec same)))
+          | inr f ↦ rw (get_or-set_other m at (l.cell u v) n 0 f)
+        ]
 
-    there : (u : ℕ) → u / 8 ≡ k → get_or written (cell u y) 0 ≡ n
-    there u e = rw e (get_or-set_same m ((h - 1 - y) * s + k) n 0 in_room)
+    there : (i : ℕ) → i < 8 → bit (get_or written at 0) (low + place i) ≡ differ (bit was (low + place i)) (bit d (place i))
+    there i lt = rw (get_or-set_same m at n 0 in_room) (here (place i) (e.order.below i lt))
 
-    -- the run lies in the byte, and n is that byte with the run done
-    module _ (x0 x1 : ℕ) (g : ℕ → Bool → Bool) (low : 8 * k ≤ x0) (high : x1 ≤ 8 * k + 8) (is : (i : ℕ) → i < 8 → bit n (7 - i) ≡ cond (leb x0 (8 * k + i) && ltb (8 * k + i) x1) (g (8 * k + i) (bit was (7 - i))) (bit was (7 - i))) where
-      bit_there : (u v : ℕ) → u < 8 * s → v < h → bit (get_or written (cell u v) 0) (7 - u % 8) ≡ cond (on_run y x0 x1 u v) (g u (bit (get_or m (cell u v) 0) (7 - u % 8))) (bit (get_or m (cell u v) 0) (7 - u % 8))
+    -- the run lies in the eight, and there its places are done
+    module _ (x0 x1 : ℕ) (g : ℕ → Bool → Bool) (from : 8 * k ≤ x0) (to : x1 ≤ 8 * k + 8) (is : (i : ℕ) → i < 8 → differ (bit was (low + place i)) (bit d (place i)) ≡ cond (leb x0 (8 * k + i) && ltb (8 * k + i) x1) (g (8 * k + i) (bit was (low + place i))) (bit was (low + place i))) where
+      bit_there : (u v : ℕ) → u < l.wide → v < l.high → bit (get_or written (l.cell u v) 0) (l.nth u v) ≡ cond (on_run y x0 x1 u v) (g u (bit (get_or m (l.cell u v) 0) (l.nth u v))) (bit (get_or m (l.cell u v) 0) (l.nth u v))
       bit_there u v hu hv =
           elim (cases_eq v y) [
             | inl ev ↦ elim (cases_eq (u / 8) k) [
               | inl ek ↦ let e8 : 8 * k + u % 8 ≡ u = omega arith in
-                  rw (ev, there u ek, ek, eq-eqb y y refl) (rw e8 at (is (u % 8) (omega arith)) ∙ ap (λ t. cond t (g u (bit was (7 - u % 8))) (bit was (7 - u % 8))) (grind (arith, nat_tests)))
-              | inr nk ↦ ap (λ t. bit t (7 - u % 8)) (elsewhere u v hu hv (λ q. nk q.0)) ∙ sym (cond-false (on_run y x0 x1 u v) _ _ (grind (arith, nat_tests)))
+                  rw (ev, e.is_at u ek, e.blocks.nth u y, eq-eqb y y refl) (there (u % 8) (omega arith) ∙ (rw e8 at (is (u % 8) (omega arith))) ∙ ap (λ t. cond t (g u (bit was (low + place (u % 8)))) (bit was (low + place (u % 8)))) (and_true _))
+              | inr nk ↦ elsewhere u v hu hv (λ q. nk q.0) ∙ sym (cond-false (on_run y x0 x1 u v) _ _ (grind (arith, nat_tests)))
             ]
-            | inr nv ↦ ap (λ t. bit t (7 - u % 8)) (elsewhere u v hu hv (λ q. nv q.1)) ∙ sym (cond-false (on_run y x0 x1 u v) _ _ (grind (arith, nat_tests)))
+            | inr nv ↦ elsewhere u v hu hv (λ q. nv q.1) ∙ sym (cond-false (on_run y x0 x1 u v) _ _ (grind (arith, nat_tests)))
           ]
 
-      point : (u v : ℕ) → (shown (rows s h) written).at u v ≡ (mapped y x0 x1 g (shown (rows s h) m)).at u v
+      point : (u v : ℕ) → (shown l written).at u v ≡ (mapped y x0 x1 g (shown l m)).at u v
       point u v =
-          elim (cases_lt u (8 * s)) [
-            | inl hu ↦ elim (cases_lt v h) [
-              | inl hv ↦ rw (lt-ltb u (8 * s) hu, lt-ltb v h hv) (bit_there u v hu hv)
-              | inr hv ↦ rw (lt-ltb u (8 * s) hu, le-ltb v h hv)
+          elim (cases_lt u l.wide) [
+            | inl hu ↦ elim (cases_lt v l.high) [
+              | inl hv ↦ rw (lt-ltb u l.wide hu, lt-ltb v l.high hv) (bit_there u v hu hv)
+              | inr hv ↦ rw (lt-ltb u l.wide hu, le-ltb v l.high hv)
             ]
-            | inr hu ↦ rw (le-ltb u (8 * s) hu)
+            | inr hu ↦ rw (le-ltb u l.wide hu)
           ]
 
-      pub byte_written : shown (rows s h) written ≡ mapped y x0 x1 g (shown (rows s h) m)
-      byte_written = agree (shown (rows s h) m) _ _ point
+      pub eight_changed : shown l written ≡ mapped y x0 x1 g (shown l m)
+      eight_changed = agree (shown l m) _ _ point
 
-    -- as many places change as bits of the byte
-    pub byte_changes : n < 256 → was < 256 → changes y (shown (rows s h) m) (shown (rows s h) written) ≡ ones (bit_xor was n)
-    byte_changes hn ho =
-        only_these (λ u. differ ((shown (rows s h) m).at u y) ((shown (rows s h) written).at u y)) (8 * s) (8 * k) 8 (omega arith) (λ i lt. away i (omega arith)) (λ i ge. away i (omega arith)) ∙ same_number _ _ 8 here ∙ ones_differ was n ho hn
+    -- as many places change as bits are flipped
+    pub eight_changes : d < 256 → changes y (shown l m) (shown l written) ≡ ones d
+    eight_changes hd =
+        only_these (λ u. differ ((shown l m).at u y) ((shown l written).at u y)) l.wide (8 * k) 8 (omega (arith, e.blocks.wide)) (λ i lt. away i (omega arith)) (λ i ge. away i (omega arith)) ∙ same_number _ _ 8 flipped ∙ e.order.as_many (bit d) ∙ sym (ones_bits 8 d hd)
       where
-        away : (u : ℕ) → (u / 8 ≡ k → ⊥) → differ ((shown (rows s h) m).at u y) ((shown (rows s h) written).at u y) ≡ false
-        away u ne =
-            elim (cases_lt u (8 * s)) [ inl hu ↦ rw (elsewhere u y hu hy (λ q. ne q.0)) (same_bit ((ltb u (8 * s) && ltb y h) && bit (get_or m (cell u y) 0) (7 - u % 8))) | inr hu ↦ rw (le-ltb u (8 * s) hu) ]
+        twice : (o f : Bool) → differ o (differ o f) ≡ f
+        twice true true = refl
+        twice true false = refl
+        twice false f = refl
 
-        here : (i : ℕ) → i < 8 → differ ((shown (rows s h) m).at (8 * k + i) y) ((shown (rows s h) written).at (8 * k + i) y) ≡ differ (bit was (7 - i)) (bit n (7 - i))
-        here i lt =
+        away : (u : ℕ) → (u / 8 ≡ k → ⊥) → differ ((shown l m).at u y) ((shown l written).at u y) ≡ false
+        away u ne =
+            elim (cases_lt u l.wide) [ inl hu ↦ rw (elsewhere u y hu (omega (arith, e.blocks.high)) (λ q. ne q.0)) (same_bit ((shown l m).at u y)) | inr hu ↦ rw (le-ltb u l.wide hu) ]
+
+        flipped : (i : ℕ) → i < 8 → differ ((shown l m).at (8 * k + i) y) ((shown l written).at (8 * k + i) y) ≡ bit d (place i)
+        flipped i lt =
             let ek : (8 * k + i) / 8 ≡ k = omega arith in
             let em : (8 * k + i) % 8 ≡ i = omega arith in
-            let hu : 8 * k + i < 8 * s = omega arith in
-            rw (there (8 * k + i) ek, ek, em, lt-ltb (8 * k + i) (8 * s) hu, lt-ltb y h hy)
+            let hu : 8 * k + i < l.wide = omega (arith, e.blocks.wide) in
+            let hv : y < l.high = omega (arith, e.blocks.high) in
+            rw (lt-ltb (8 * k + i) l.wide hu, lt-ltb y l.high hv, e.is_at (8 * k + i) ek, e.blocks.nth (8 * k + i) y, em, there i lt) (twice (bit was (low + place i)) (bit d (place i)))

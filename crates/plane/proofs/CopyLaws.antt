@@ -1,14 +1,13 @@
 -- A run copied from another row.
-use Rattle.std.proofs.Common.{◌≡◌, ℕ, ◌+◌, ◌-◌, ◌*◌, ◌/◌, ◌%◌, ◌<◌, ◌≤◌, min, Bool, true, false, cond, ◌&&◌, ltb, leb, List, get_or, Ok, Err, sym, refl, ap, ◌∙◌, inl, inr, arith}
-use Rattle.std.proofs.lemmas.Bool.{cases_lt, cases_Bool, cond-false, cond-true, and_parts, leb-true, lt-ltb, ne_eqb}
+use Rattle.std.proofs.Common.{◌≡◌, ℕ, ◌+◌, ◌-◌, ◌<◌, ◌≤◌, min, Bool, false, cond, ◌&&◌, Ok, Err, sym, ap, ◌∙◌, inl, inr, add-zero, arith}
+use Rattle.std.proofs.lemmas.Bool.{cases_lt, cond-false, cond-true, ne_eqb}
 use Rattle.std.proofs.lemmas.Bool.Decides.{nat_tests}
 use Rattle.refusal.specs.declared.Refusal.{Refusal}
-use Rattle.plane.specs.Bits.{bit}
-use Rattle.plane.specs.Layout.{rows, shown}
+use Rattle.plane.specs.Laws.{other_row}
 use Rattle.plane.specs.Picture.{Picture, has, asked}
-use Rattle.plane.specs.Run.{on_run, mapped, filled_run, from_row, copied_run}
+use Rattle.plane.specs.Run.{on_run, mapped, filled_run, from_row, copied_run, changes}
 use Rattle.plane.proofs.CountLaws.{no_change}
-use Rattle.plane.proofs.RunLaws.{Done, agree, was_there, was_outside}
+use Rattle.plane.proofs.RunLaws.{Done, agree, either, one_longer, was_there, was_outside}
 
 -- only what is done to the places of the run matters
 pub same_along : (p : Picture) (f g : ℕ → Bool → Bool) (y x0 x1 : ℕ) → ((u : ℕ) → x0 ≤ u → u < x1 → (old : Bool) → f u old ≡ g u old) → mapped y x0 x1 f p ≡ mapped y x0 x1 g p
@@ -27,44 +26,33 @@ same_along p f g y x0 x1 same = agree p (mapped y x0 x1 f p).at (mapped y x0 x1 
           ]
         ]
 
-other_row : (p : Picture) (g : ℕ → Bool → Bool) (y x0 x1 u v : ℕ) → (v ≡ y → ⊥) → (mapped y x0 x1 g p).at u v ≡ p.at u v
-other_row p g y x0 x1 u v ne = grind (arith, nat_tests)
+-- q is p copied as far as x, and the next place is asked; the answer comes first, so that what is to be shown is where it was asked
+module _ (p q : Picture) (y x0 x sy sx m : ℕ) (ne : sy ≡ y → ⊥) (le : x0 ≤ x) (d : Done y x0 x (from_row p x0 sy sx) p q m) where
+  source : (s : ℕ) → asked q s sy ≡ asked p s sy
+  source s = rw (d.picture, other_row p (from_row p x0 sy sx) y x0 x s sy ne)
 
--- q is p copied as far as x
-module _ (p q : Picture) (y x0 x sy sx : ℕ) (ne : sy ≡ y → ⊥) (le : x0 ≤ x) (so_far : q ≡ mapped y x0 x (from_row p x0 sy sx) p) where
-  -- the rest may be copied from q as it would be from p
-  pub rest : (x1 t : ℕ) (r : Picture) → r ≡ mapped y x x1 (from_row q x sy t) q → t ≡ x - x0 + sx → r ≡ mapped y x x1 (from_row p x0 sy sx) q
-  rest x1 t r is et = is ∙ same_along q (from_row q x sy t) (from_row p x0 sy sx) y x x1 same
+  pub one_copied : {s : ℕ} (b : Bool) (r : Picture) (n : ℕ) → Ok b ≡ asked q s sy → s ≡ x - x0 + sx → r ≡ filled_run y x (x + 1) b q → n ≡ changes y q r → Done y x0 (x + 1) (from_row p x0 sy sx) p r (m + n)
+  one_copied {s} b r n e es er en =
+      one_longer y x0 (from_row p x0 sy sx) p x q r m n le d (record { picture = er ∙ same_along q (λ _ _. b) (from_row p x0 sy sx) y x (x + 1) same; count = en })
     where
-      same : (u : ℕ) → x ≤ u → u < x1 → (old : Bool) → from_row q x sy t u old ≡ from_row p x0 sy sx u old
+      same : (u : ℕ) → x ≤ u → u < x + 1 → (old : Bool) → b ≡ from_row p x0 sy sx u old
       same u ge lt old =
-          let e : u - x + t ≡ u - x0 + sx = omega arith in
-          rw (e, so_far, other_row p (from_row p x0 sy sx) y x0 x (u - x0 + sx) sy ne)
-
-  -- the answer comes first, so that what is to be shown is where it was asked
-  pub one_copied : {s : ℕ} (b : Bool) → Ok b ≡ asked q s sy → s ≡ x - x0 + sx → filled_run y x (x + 1) b q ≡ mapped y x (x + 1) (from_row p x0 sy sx) q
-  one_copied {s} b e es = rest (x + 1) s (filled_run y x (x + 1) b q) (same_along q (λ _ _. b) (from_row q x sy s) y x (x + 1) same) es
-    where
-      same : (u : ℕ) → x ≤ u → u < x + 1 → (old : Bool) → b ≡ from_row q x sy s u old
-      same u ge lt old =
-          let f = was_there (has q s sy) b (q.at s sy) e in
-          let z : u - x + s ≡ s = omega arith in
+          let f = was_there (has p s sy) b (p.at s sy) (e ∙ source s) in
+          let z : u - x0 + sx ≡ s = omega arith in
           f.1 ∙ sym (rw z (cond-true _ _ _ f.0))
 
-  pub none_copied : {s : ℕ} (f : Refusal) → Err f ≡ asked q s sy → s ≡ x - x0 + sx → Done y x (x + 1) (from_row p x0 sy sx) q q 0
-  none_copied {s} f e es = record {
-    picture = rest (x + 1) s q (agree q q.at (mapped y x (x + 1) (λ _ old. old) q).at (λ u v. stays (has q u v && on_run y x (x + 1) u v) (q.at u v)) ∙ same_along q (λ _ old. old) (from_row q x sy s) y x (x + 1) same) es;
-    count = sym (no_change y q);
-  }
+  pub none_copied : {s : ℕ} (f : Refusal) → Err f ≡ asked q s sy → s ≡ x - x0 + sx → Done y x0 (x + 1) (from_row p x0 sy sx) p q m
+  none_copied {s} f e es =
+      rw (← add-zero m)
+      (one_longer y x0 (from_row p x0 sy sx) p x q q m 0 le d (record {
+        picture = agree q q.at (mapped y x (x + 1) (λ _ old. old) q).at (λ u v. sym (either (has q u v && on_run y x (x + 1) u v) (q.at u v))) ∙ same_along q (λ _ old. old) (from_row p x0 sy sx) y x (x + 1) same;
+        count = sym (no_change y q);
+      }))
     where
-      stays : (t b : Bool) → b ≡ cond t b b
-      stays true b = refl
-      stays false b = refl
-
-      same : (u : ℕ) → x ≤ u → u < x + 1 → (old : Bool) → old ≡ from_row q x sy s u old
+      same : (u : ℕ) → x ≤ u → u < x + 1 → (old : Bool) → old ≡ from_row p x0 sy sx u old
       same u ge lt old =
-          let z : u - x + s ≡ s = omega arith in
-          sym (rw z (cond-false _ _ _ (was_outside (has q s sy) (q.at s sy) f e)))
+          let z : u - x0 + sx ≡ s = omega arith in
+          sym (rw z (cond-false _ _ _ (was_outside (has p s sy) (p.at s sy) f (e ∙ source s))))
 
 module _ (p : Picture) (y x0 sy sx : ℕ) where
   -- past n places there is none to change, or none to copy from
@@ -76,23 +64,3 @@ module _ (p : Picture) (y x0 sy sx : ℕ) where
 
   pub copied_apart : (x1 : ℕ) → (sy ≡ y → ⊥) → mapped y x0 x1 (from_row p x0 sy sx) p ≡ copied_run y x0 x1 sy sx p
   copied_apart x1 ne = sym (cond-false _ _ _ (ne_eqb sy y ne))
-
--- both runs begin at the same place of a byte, so a byte's places are those of the source's byte
-module _ (s h : ℕ) (m : List ℕ) (x0 sy sx : ℕ) (hs : sy < h) (hx : sx < 8 * s) (aligned : x0 % 8 ≡ sx % 8) (i : ℕ) (lt : i < 8) where
-  abbrev source : ℕ
-  source = get_or m ((h - 1 - sy) * s + sx / 8) 0
-
-  source_bit : x0 ≤ 8 * (x0 / 8) + i → (old : Bool) → from_row (shown (rows s h) m) x0 sy sx (8 * (x0 / 8) + i) old ≡ bit source (7 - i)
-  source_bit le old =
-      let t : 8 * (x0 / 8) + i - x0 + sx ≡ 8 * (sx / 8) + i = omega arith in
-      let d : (8 * (sx / 8) + i) / 8 ≡ sx / 8 = omega arith in
-      let r : (8 * (sx / 8) + i) % 8 ≡ i = omega arith in
-      let w : 8 * (sx / 8) + i < 8 * s = omega arith in
-      rw (t, lt-ltb (8 * (sx / 8) + i) (8 * s) w, lt-ltb sy h hs, d, r)
-
-  pub byte_copied : (x1 n : ℕ) (old : Bool) → bit n (7 - i) ≡ cond (leb x0 (8 * (x0 / 8) + i) && ltb (8 * (x0 / 8) + i) x1) (bit source (7 - i)) old → bit n (7 - i) ≡ cond (leb x0 (8 * (x0 / 8) + i) && ltb (8 * (x0 / 8) + i) x1) (from_row (shown (rows s h) m) x0 sy sx (8 * (x0 / 8) + i) old) old
-  byte_copied x1 n old e =
-      elim (cases_Bool (leb x0 (8 * (x0 / 8) + i) && ltb (8 * (x0 / 8) + i) x1)) [
-        | inl on ↦ e ∙ cond-true _ _ old on ∙ sym (source_bit (leb-true x0 (8 * (x0 / 8) + i) (and_parts _ _ on).0) old) ∙ sym (cond-true _ _ old on)
-        | inr off ↦ e ∙ cond-false _ _ old off ∙ sym (cond-false _ _ old off)
-      ]

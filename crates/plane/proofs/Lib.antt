@@ -2,7 +2,6 @@ pub mod BitLaws
 pub mod ByteLaws
 pub mod CopyLaws
 pub mod CountLaws
-pub mod LayoutLaws
 pub mod MaskLaws
 pub mod MemoryLaws
 pub mod RoomLaws

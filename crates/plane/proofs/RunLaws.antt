@@ -49,9 +49,15 @@ module _ (y x0 : ℕ) (g : ℕ → Bool → Bool) (p : Picture) where
   pub cut : (x x1 e : ℕ) → e ≡ min x1 p.wide → e ≤ x → x ≤ max x0 e → mapped y x0 x g p ≡ mapped y x0 x1 g p
   cut x x1 e is ge le = agree p _ _ (λ u v. grind (arith, nat_tests))
 
+-- a further part of a run, where what is brought is told of the picture q that stood then, and does not hang on what was done
+pub further : (y x0 : ℕ) (b : Picture → ℕ → Bool → Bool) (p q r : Picture) (x a e z m n : ℕ) → ((u : ℕ) (old : Bool) → b (mapped y x0 x (b p) p) u old ≡ b p u old) → Done y x0 x (b p) p q m → Done y a e (b q) q r n → a ≡ x → e ≡ z → x0 ≤ x → x ≤ z → Done y x0 z (b p) p r (m + n)
+further y x0 b p q r x a e z m n steady d more start end le le' =
+    let same : b q ≡ b p = ap b d.picture ∙ fun_ext (λ u. fun_ext (λ old. steady u old)) in
+    longer y x0 (b p) p x z q r m n le le' d (record { picture = more.picture ∙ ap (λ t. mapped y t e (b q) q) start ∙ ap (λ f. mapped y x e f q) same; count = more.count }) end
+
 -- a run of one place
 module _ (q : Picture) (x y : ℕ) where
-  one_place : (g : ℕ → Bool → Bool) → put x y (g x (q.at x y)) q ≡ mapped y x (x + 1) g q
+  pub one_place : (g : ℕ → Bool → Bool) → put x y (g x (q.at x y)) q ≡ mapped y x (x + 1) g q
   one_place g = agree q _ _ point
     where
       point : (u v : ℕ) → (put x y (g x (q.at x y)) q).at u v ≡ (mapped y x (x + 1) g q).at u v
@@ -126,10 +132,10 @@ module _ (q : Picture) (x y : ℕ) (g : ℕ → Bool → Bool) where
     count = sym (no_change y q);
   }
 
+pub either : (c b : Bool) → cond c b b ≡ b
+either true b = refl
+either false b = refl
+
 -- where 0 and 1 become the same bit, the run is filled
 pub join_fills : (p : Picture) (y x0 x1 : ℕ) (b : Bool) → joined_run y x0 x1 b b p ≡ filled_run y x0 x1 b p
-join_fills p y x0 x1 b = agree p _ _ (λ u v. ap (λ t. cond (has p u v && on_run y x0 x1 u v) t (p.at u v)) (either (p.at u v)))
-  where
-    either : (c : Bool) → cond c b b ≡ b
-    either true = refl
-    either false = refl
+join_fills p y x0 x1 b = agree p _ _ (λ u v. ap (λ t. cond (has p u v && on_run y x0 x1 u v) t (p.at u v)) (either (p.at u v) b))

@@ -1,4 +1,5 @@
 pub mod Bits
+pub mod Laws
 pub mod Layout
 pub mod Memory
 pub mod Picture

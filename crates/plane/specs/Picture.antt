@@ -1,5 +1,5 @@
 -- What a plane means: a picture, with (0, 0) lower left.
-use Rattle.std.specs.Prelude.{ℕ, ◌-◌, Bool, cond, ◌&&◌, Ok, Result, ◌==◌, nat_lt, refl}
+use Rattle.std.specs.Prelude.{ℕ, ◌-◌, Bool, if◌then◌else◌, ◌&&◌, Ok, Result, ◌==◌, nat_lt, refl}
 use Rattle.refusal.specs.declared.Refusal.{Refusal}
 use Rattle.refusal.specs.declared.Refusal.TheVariants.{Outside}
 use Rattle.refusal.specs.Number.{refused}
@@ -20,15 +20,15 @@ with_bits p f = record { wide = p.wide; high = p.high; at = f }
 
 -- the bit b put at (x, y), if the picture has that place; all others stay
 abbrev pub put : ℕ → ℕ → Bool → Picture → Picture
-put x y b p = with_bits p (λ u v. cond (has p x y && (u == x && v == y)) b (p.at u v))
+put x y b p = with_bits p (λ u v. if has p x y && (u == x && v == y) then b else p.at u v)
 
 -- what asking for (x, y) answers
 abbrev pub asked : Picture → ℕ → ℕ → Result Bool Refusal
-asked p x y = cond (has p x y) (Ok (p.at x y)) (refused Outside 11 refl)
+asked p x y = if has p x y then Ok (p.at x y) else refused Outside 11 refl
 
 -- what setting (x, y) answers
 abbrev pub answered : Picture → ℕ → ℕ → Result (Unit {0}) Refusal
-answered p x y = cond (has p x y) (Ok tt) (refused Outside 11 refl)
+answered p x y = if has p x y then Ok tt else refused Outside 11 refl
 
 -- the picture on its side: (x, y) shows the place (width - 1 - y, x)
 abbrev pub turned : Picture → Picture

@@ -1,7 +1,8 @@
 //! Whether memory is that of a plane.
-ghost use Rattle.std.specs.Prelude.{◌≡◌, ◌<◌};
+ghost use Rattle.std.specs.Prelude.{◌≡◌, ◌*◌};
 ghost use Rattle.plane.specs.Memory.{side, sized, checked};
 
+use crate::cell::Cell;
 use refusal::Refusal;
 
 fn is_side(n: usize) -> bool
@@ -21,28 +22,13 @@ pub fn check_size(width: usize, height: usize) -> Result<(), Refusal>
     }
 }
 
-// Whether `len` numbers of `pixels` each are exactly those of a plane.
-fn check_cells(width: usize, height: usize, pixels: usize, len: usize) -> Result<(), Refusal>
-    requires { 0 < pixels }
-    ensures { result ≡ checked width height pixels len }
+/// Whether `len` numbers are exactly the memory of a plane.
+pub fn check_memory<C: Cell>(width: usize, height: usize, len: usize) -> Result<(), Refusal>
+    ensures { result ≡ checked width height (8 * C.HIGH) len }
 {
     check_size(width, height)?;
-    if len != width * height / pixels {
+    if len != width * height / (8 * C::HIGH) {
         return Err(Refusal::Memory);
     }
     Ok(())
-}
-
-/// Whether `len` bytes are exactly the memory of a plane in packed rows.
-pub fn check_bytes(width: usize, height: usize, len: usize) -> Result<(), Refusal>
-    ensures { result ≡ checked width height 8 len }
-{
-    check_cells(width, height, 8, len)
-}
-
-/// Whether `len` tiles are exactly the memory of a plane in tiles.
-pub fn check_tiles(width: usize, height: usize, len: usize) -> Result<(), Refusal>
-    ensures { result ≡ checked width height 64 len }
-{
-    check_cells(width, height, 64, len)
 }

@@ -1,135 +1,61 @@
 //! A plane in packed rows: bytes, the top row first, the leftmost pixel in bit 7.
-ghost use Rattle.std.specs.Prelude.{◌≡◌, ◌*◌, ◌/◌, ◌<◌, length, IfSome, if◌then◌else◌, nat_le};
-ghost use Rattle.plane.specs.Memory.{fits};
-ghost use Rattle.plane.specs.Layout.{rows, held, held_dark, found, made_of_bytes};
+ghost use Rattle.std.proofs.Common.{refl, sym};
+ghost use Rattle.std.proofs.lemmas.List.{get_or_default};
+ghost use Rattle.std.specs.Prelude.{◌-◌, ◌≤◌, ◌<◌};
+ghost use Rattle.plane.specs.Laws.{downward, blocks_of_rows, bytes_made, byte_tall};
+ghost use Rattle.plane.specs.Layout.{rows, made_of_bytes};
 
-use crate::Plane;
-use crate::bits::{bit_of, with_bit};
-use crate::bytewise::{copy_in_row, join_in_row};
-use crate::memory::check_bytes;
-use refusal::Refusal;
+use crate::cell::{Cell, places_from_left};
+use crate::grid::Grid;
 
-// No invariant: a stride of bytes makes the width a multiple of 8, and each call looks whether the memory has room.
-// So a plane over lent memory can be held by value in another.
-#[derive(Drop)]
-pub struct Packed<'a> {
-    memory: &'a mut [u8],
-    stride: u16,
-    height: u16,
-}
+pub type Packed<'a> = Grid<'a, u8>;
 
-impl<'a> Packed<'a> {
-    /// The plane on this memory, or one of size 0 by 0 where the memory fails the check.
-    pub fn new(memory: &'a mut [u8], width: usize, height: usize) -> Packed<'a>
-        ensures stride { result.stride ≡ (if fits width height 8 (length memory.old) then width / 8 else 0) }
-        ensures height { result.height ≡ (if fits width height 8 (length memory.old) then height else 0) }
-        ensures memory { result.memory ≡ memory.entry }
-        ensures picture { held (rows result.stride result.height) result.memory.now ≡ made_of_bytes width height memory.old }
-    {
-        if check_bytes(width, height, memory.len()).is_err() {
-            return Packed {
-                memory,
-                stride: 0,
-                height: 0,
-            };
-        }
-        Packed {
-            memory,
-            stride: (width / 8) as u16,
-            height: height as u16,
-        }
-    }
-}
+impl Cell for u8 {
+    ghost number = { λ n. n };
 
-impl Packed<'_> {
-    /// Whether the memory has room for the rows.
-    fn has_room(&self) -> bool
-        ensures { result ≡ nat_le (self.now.stride * self.now.height) (length self.now.memory.now) }
-    {
-        self.stride as usize * self.height as usize <= self.memory.len()
+    ghost numbers = { λ m. m };
+
+    ghost layout = { rows };
+
+    ghost made = { made_of_bytes };
+
+    ghost place = { λ i. 7 - i };
+
+    ghost HIGH = { 1 };
+
+    const HIGH: usize = 1;
+
+    fn place(i: usize) -> usize {
+        7 - i
     }
 
-    /// The number of the byte that has (x, y).
-    fn byte_at(&self, x: usize, y: usize) -> Option<usize>
-        ensures value { result ≡ found (rows self.now.stride self.now.height) self.now.memory.now x y }
-        ensures inside { IfSome result (λ at. at < length self.now.memory.now) }
-    {
-        let stride = self.stride as usize;
-        let height = self.height as usize;
-        if self.has_room() && x < 8 * stride && y < height {
-            Some((height - 1 - y) * stride + x / 8)
-        } else {
-            None
-        }
-    }
-}
-
-impl Plane for Packed<'_> {
-    ghost picture = { λ s. held (rows s.stride s.height) s.memory.now };
-
-    ghost dark = { λ s x y out. held_dark (rows s.stride s.height) s.memory.now x y out };
-
-    fn width(&self) -> usize {
-        if self.has_room() {
-            8 * self.stride as usize
-        } else {
-            0
-        }
+    fn places(lo: usize, hi: usize) -> u8 {
+        places_from_left(lo, hi)
     }
 
-    fn height(&self) -> usize {
-        if self.has_room() {
-            self.height as usize
-        } else {
-            0
-        }
+    fn index(across: u16, up: u16, k: usize, y: usize) -> usize {
+        (up as usize - 1 - y) * across as usize + k
     }
 
-    fn ask(&self, x: usize, y: usize) -> Result<bool, Refusal> {
-        match self.byte_at(x, y) {
-            Some(at) => Ok(bit_of(self.memory[at] as u64, 7 - x % 8)),
-            None => Err(Refusal::Outside),
-        }
+    fn eight(self, _y: usize) -> u8 {
+        self
     }
 
-    fn set(&mut self, x: usize, y: usize, bit: bool) -> Result<(), Refusal> {
-        match self.byte_at(x, y) {
-            Some(at) => {
-                self.memory[at] = with_bit(self.memory[at] as u64, 7 - x % 8, bit) as u8;
-                Ok(())
-            }
-            None => Err(Refusal::Outside),
-        }
+    fn flipped(self, _y: usize, flips: u8) -> u8 {
+        self ^ flips
     }
 
-    fn join_run(&mut self, y: usize, x0: usize, x1: usize, zero: bool, one: bool) -> usize {
-        let stride = self.stride as usize;
-        let height = self.height as usize;
-        let end = x1.min(8 * stride);
-        if self.has_room() && y < height && x0 < end {
-            join_in_row(self.memory, stride, height, y, x0, end, zero, one)
-        } else {
-            0
-        }
-    }
+    ghost tall = { byte_tall };
 
-    // Whole bytes where both runs lie alike in them, and the source all inside.
-    fn copy_run(&mut self, y: usize, x0: usize, x1: usize, sy: usize, sx: usize) -> usize {
-        let stride = self.stride as usize;
-        let height = self.height as usize;
-        let end = x1.min(8 * stride);
-        if self.has_room()
-            && y < height
-            && sy < height
-            && sy != y
-            && x0 < end
-            && x0 % 8 == sx % 8
-            && sx < 8 * stride
-            && sx + (end - x0) <= 8 * stride
-        {
-            copy_in_row(self.memory, stride, height, y, x0, end, sy, sx)
-        } else {
-            self.copy_places(y, x0, x1, sy, sx)
-        }
-    }
+    ghost order = { downward };
+
+    ghost blocks = { blocks_of_rows };
+
+    ghost makes = { bytes_made };
+
+    ghost as_many = { λ _. refl };
+
+    ghost read = { λ m i c lt. get_or_default m i 0 c lt };
+
+    ghost written = { λ _ _ _. refl };
 }
