@@ -9,17 +9,20 @@ use crate::brush::Brush;
 use crate::operation::Operation;
 use crate::rectangle::Rectangle;
 use plane::Plane;
+use plane::run::Effect;
 
 // Joins source 1 to the places of the plane in these columns and rows.
 fn cover<P: Plane>(plane: &mut P, operation: Operation, columns: Places, rows: Places)
     ensures { P.picture plane.new ≡ covered operation columns rows (P.picture plane.old) }
 {
-    let zero = operation.combine(true, false);
-    let one = operation.combine(true, true);
+    let effect = Effect {
+        zero: operation.combine(true, false),
+        one: operation.combine(true, true),
+    };
     let left = columns.start as usize;
     let bottom = rows.start as usize;
     for v in bottom..bottom + rows.count as usize {
-        plane.join_run(v, left, left + columns.count as usize, zero, one);
+        plane.join_run(v, left..left + columns.count as usize, effect);
     }
 }
 
