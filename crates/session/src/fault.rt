@@ -1,4 +1,5 @@
 //! Why a script stops.
+use hex::FromHexError;
 use std::alloc::AllocError;
 use std::{fmt, io};
 
@@ -52,5 +53,14 @@ impl From<AllocError> for Fault {
 impl From<io::Error> for Fault {
     fn from(_: io::Error) -> Fault {
         Fault::Transfer
+    }
+}
+
+impl From<FromHexError> for Fault {
+    fn from(error: FromHexError) -> Fault {
+        match error {
+            FromHexError::OutOfMemory => Fault::Memory,
+            _ => Fault::BadHexadecimal,
+        }
     }
 }
