@@ -1,9 +1,10 @@
 //! A terminal that stands, with all that it stands on.
 use crate::answer::{print_answer, print_delivery, print_listing, print_pixels, print_size};
 use crate::command::Call;
+use crate::face::solid;
 use crate::fault::Fault;
 use crate::ink::put_ink;
-use crate::sheet::{Memory, Sheet};
+use crate::sheet::{Memory, Shape, Sheet};
 use keyboard::stroke::Stroke;
 use line::Line;
 use plane::Plane;
@@ -14,11 +15,12 @@ use queue::Queue;
 use refusal::Refusal;
 use runs::delivery::Delivery;
 use state::terminal::Terminal;
+use std::alloc::{AllocError, Global};
 use terminal::feed::feed;
 use terminal::key::key;
 use terminal::point::point;
 
-/// All that a call takes but the plane.
+/// A terminal with all that a call on it takes but the plane.
 #[derive(Drop)]
 pub struct Station<'a, L> {
     pub terminal: Terminal,
@@ -27,6 +29,7 @@ pub struct Station<'a, L> {
     pub strokes: Queue<'a, Stroke>,
 }
 
+/// A station with the memory of its plane.
 #[derive(Drop)]
 pub struct Desk<'a, L> {
     pub station: Station<'a, L>,
@@ -88,6 +91,26 @@ impl<L: Line> Station<'_, L> {
             Call::Pixels => print_pixels(rt, plane),
             Call::Size => print_size(rt, plane),
         }
+    }
+}
+
+impl<'a, L: Drop> Desk<'a, L> {
+    /// A new terminal's desk, with a solid face and a plane of zeros.
+    pub(crate) fn new(
+        heap: Global,
+        shape: Shape,
+        terminal: Terminal,
+        line: L,
+        strokes: Queue<'a, Stroke>,
+    ) -> Result<Desk<'a, L>, AllocError> {
+        let station = Station {
+            terminal,
+            face: solid(heap)?,
+            line,
+            strokes,
+        };
+        let sheet = Sheet::blank(heap, shape)?;
+        Ok(Desk { station, sheet })
     }
 }
 

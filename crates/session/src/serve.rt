@@ -1,13 +1,11 @@
 //! Serving a script: each install begins a terminal, which takes the commands up to the next.
 use crate::command::{Call, Command, LineKind, Plan};
-use crate::desk::{Desk, Station};
-use crate::face::solid;
+use crate::desk::Desk;
 use crate::fault::Fault;
 use crate::hexadecimal::word_of;
 use crate::peek::Peek;
 use crate::script::Script;
 use crate::sheet::{Shape, Sheet};
-use crate::status::Status;
 use keyboard::key::Key;
 use keyboard::stroke::Stroke;
 use line::drain;
@@ -29,17 +27,6 @@ impl<L: Peek> Desk<'_, L> {
         Ok(())
     }
 
-    fn print_state(&self, rt: &HostRuntime) -> Result<(), Fault> {
-        let station = &self.station;
-        let status = Status {
-            terminal: &station.terminal,
-            line: &station.line,
-            strokes: &station.strokes,
-        };
-        println!(rt; "{status}")?;
-        Ok(())
-    }
-
     // Does what a command asks for, and answers with the plan of a new terminal.
     fn obey(&mut self, rt: &HostRuntime, command: Command) -> Result<Option<Plan>, Fault> {
         match command {
@@ -53,7 +40,7 @@ impl<L: Peek> Desk<'_, L> {
                 self.station.face = bytes;
             }
             Command::Drain { size } => self.print_drain(rt, size)?,
-            Command::State => self.print_state(rt)?,
+            Command::State => println!(rt; "{}", self.station)?,
             Command::OnPlane(call) => self.call(rt, &call)?,
         }
         Ok(None)
@@ -80,43 +67,16 @@ fn connect(
     plan: Plan,
 ) -> Result<Option<Plan>, Fault> {
     let heap = rt.alloc();
-    let face = solid(heap)?;
-    let sheet = Sheet::blank(heap, plan.shape)?;
     let mut places = vec![in heap; BLANK; plan.places]?;
     let strokes = Queue::new(&mut places);
     match plan.line {
         LineKind::Queue => {
             let mut bytes = vec![in heap; 0u8; plan.capacity]?;
             let line = Queue::new(&mut bytes);
-            let station = Station {
-                terminal,
-                face,
-                line,
-                strokes,
-            };
-            Desk { station, sheet }.serve(rt, script)
+            Desk::new(heap, plan.shape, terminal, line, strokes)?.serve(rt, script)
         }
         LineKind::Packet => {
-            let line = Packets::new();
-            let station = Station {
-                terminal,
-                face,
-                line,
-                strokes,
-            };
-            Desk { station, sheet }.serve(rt, script)
-        }
-    }
-}
-
-// Installs a terminal and serves it. Where the install is refused there is nothing to serve.
-fn begin(rt: &HostRuntime, script: &mut Script<'_>, plan: Plan) -> Result<Option<Plan>, Fault> {
-    let Shape { width, height, .. } = plan.shape;
-    match install(width, height, plan.terminator) {
-        Ok(terminal) => connect(rt, script, terminal, plan),
-        Err(refusal) => {
-            println!(rt; "install {}", refusal.number())?;
-            Ok(None)
+            Desk::new(heap, plan.shape, terminal, Packets::new(), strokes)?.serve(rt, script)
         }
     }
 }
@@ -130,6 +90,18 @@ fn next_plan(script: &mut Script<'_>) -> Result<Option<Plan>, Fault> {
     }
 }
 
+// Installs a terminal and serves it, or has none to serve where the install is refused. Answers with the next plan.
+fn begin(rt: &HostRuntime, script: &mut Script<'_>, plan: Plan) -> Result<Option<Plan>, Fault> {
+    let Shape { width, height, .. } = plan.shape;
+    match install(width, height, plan.terminator) {
+        Ok(terminal) => connect(rt, script, terminal, plan),
+        Err(refusal) => {
+            println!(rt; "install {}", refusal.number())?;
+            next_plan(script)
+        }
+    }
+}
+
 /// Plays the whole script.
 pub(crate) fn play(rt: &HostRuntime, script: &mut Script<'_>) -> Result<(), Fault> {
     let mut next = next_plan(script)?;
@@ -139,9 +111,6 @@ pub(crate) fn play(rt: &HostRuntime, script: &mut Script<'_>) -> Result<(), Faul
             break;
         };
         next = begin(rt, script, plan)?;
-        if next.is_none() {
-            next = next_plan(script)?;
-        }
     }
     Ok(())
 }

@@ -1,4 +1,5 @@
 //! The state of a terminal as a line of words.
+use crate::desk::Station;
 use crate::peek::Peek;
 use keyboard::stroke::Stroke;
 use queue::Queue;
@@ -116,11 +117,10 @@ struct Strokes<'a, 'q>(&'a Queue<'q, Stroke>);
 
 impl fmt::Display for Strokes<'_, '_> {
     fn fmt<W: fmt::Write>(&self, f: &mut fmt::Formatter<W>) -> fmt::Result {
-        for i in 0..self.0.len() {
-            if let Some(stroke) = self.0.get(i) {
-                f.write_str(if i == 0 { "" } else { "," })?;
-                write!(f, "{}", stroke.number())?;
-            }
+        let strokes = (0..self.0.len()).filter_map(|i| self.0.get(i));
+        for (i, stroke) in strokes.enumerate() {
+            f.write_str(if i == 0 { "" } else { "," })?;
+            write!(f, "{}", stroke.number())?;
         }
         Ok(())
     }
@@ -132,32 +132,22 @@ struct Waiting<'a, L>(&'a L);
 
 impl<L: Peek> fmt::Display for Waiting<'_, L> {
     fn fmt<W: fmt::Write>(&self, f: &mut fmt::Formatter<W>) -> fmt::Result {
-        for i in 0..self.0.capacity() {
-            let Some(byte) = self.0.peek(i) else {
-                break;
-            };
+        for byte in (0..self.0.capacity()).map_while(|i| self.0.peek(i)) {
             write!(f, "{byte:02x}")?;
         }
         Ok(())
     }
 }
 
-/// The state of a terminal, and what waits for it and in it.
-#[derive(Drop)]
-pub(crate) struct Status<'a, 'q, L> {
-    pub(crate) terminal: &'a Terminal,
-    pub(crate) line: &'a L,
-    pub(crate) strokes: &'a Queue<'q, Stroke>,
-}
-
-impl<L: Peek> fmt::Display for Status<'_, '_, L> {
+/// The state.
+impl<L: Peek> fmt::Display for Station<'_, L> {
     fn fmt<W: fmt::Write>(&self, f: &mut fmt::Formatter<W>) -> fmt::Result {
         let emulation = self.terminal.emulation.number();
         let selected = Selected(self.terminal.window);
-        let modes = Modes(self.terminal);
-        let regions = Regions(self.terminal);
-        let strokes = Strokes(self.strokes);
-        let waiting = Waiting(self.line);
+        let modes = Modes(&self.terminal);
+        let regions = Regions(&self.terminal);
+        let strokes = Strokes(&self.strokes);
+        let waiting = Waiting(&self.line);
         let room = self.line.room();
         write!(f, "emu={emulation} {selected} {modes} {regions}")?;
         write!(f, "strokes={strokes} waiting={waiting} room={room}")
