@@ -1,6 +1,7 @@
 //! Feeds standard input to a new terminal and prints the listing of its picture.
 #![tactic(auto)]
 
+use columns::line::LENGTH;
 use keyboard::key::Key;
 use keyboard::stroke::Stroke;
 use line::drain;
@@ -18,7 +19,7 @@ const SIDE: usize = 512;
 
 const PLANE_BYTES: usize = SIDE * SIDE / 8;
 /// A line for each row, and the last.
-const TEXT_BYTES: usize = 25 * (SIDE + 1);
+const TEXT_BYTES: usize = LENGTH * (SIDE + 1);
 
 const FACE_BYTES: usize = 1520;
 
@@ -90,7 +91,7 @@ impl Player<'_> {
         let mut text = vec![in rt.alloc(); 0u8; TEXT_BYTES]?;
         let length = listing(&self.terminal, &self.plane, &mut text)?;
         rt.stdout().write_all(&text[0..length])?;
-        Ok((length / 25).saturating_sub(1))
+        Ok((length / LENGTH).saturating_sub(1))
     }
 }
 

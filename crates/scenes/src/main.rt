@@ -1,6 +1,7 @@
 //! Plays one recording on planes of every make, and calls that are refused, for the gate to compare.
 #![tactic(auto)]
 
+use columns::line::LENGTH;
 use keyboard::key::Key;
 use keyboard::stroke::Stroke;
 use line::packets::Packets;
@@ -47,7 +48,7 @@ fn take<P: Plane>(terminal: &mut Terminal, plane: &mut P, bytes: &[u8]) -> Resul
 
 /// Feeds the recording in two deliveries, cut in the middle of a sequence, and prints the listing.
 fn play<P: Plane>(rt: &HostRuntime, name: &str, plane: &mut P) -> anyhow::Result<()> {
-    let mut text = vec![in rt.alloc(); 0u8; 25 * (HEIGHT + 1)]?;
+    let mut text = vec![in rt.alloc(); 0u8; LENGTH * (HEIGHT + 1)]?;
     let mut terminal = install(WIDTH, HEIGHT, 1)?;
     let first = take(&mut terminal, plane, &RECORDING[0..41])?;
     let second = take(&mut terminal, plane, &RECORDING[41..])?;
