@@ -1,10 +1,10 @@
 //! Feeds standard input to a new terminal and prints the listing of its picture.
 #![tactic(auto)]
 
+use columns::line::LENGTH;
 use keyboard::key::Key;
 use keyboard::stroke::Stroke;
-use line::{Line, drain};
-use plane::Plane;
+use line::drain;
 use plane::packed::Packed;
 use printout::listing::listing;
 use queue::Queue;
@@ -19,88 +19,95 @@ const SIDE: usize = 512;
 
 const PLANE_BYTES: usize = SIDE * SIDE / 8;
 /// A line for each row, and the last.
-const TEXT_BYTES: usize = 25 * (SIDE + 1);
+const TEXT_BYTES: usize = LENGTH * (SIDE + 1);
 
 const FACE_BYTES: usize = 1520;
 
-/// Takes what waits in the line, as far as a reply can be long.
-fn discard<L: Line>(line: &mut L) {
-    let mut replies = [0u8; 64];
-    drain(line, &mut replies);
+/// What fills a place in which no stroke waits.
+const BLANK: Stroke = Stroke {
+    key: Key::Byte { code: 0 },
+};
+
+/// A terminal with all that bytes change, and the face that they draw with.
+#[derive(Drop)]
+struct Player<'a> {
+    terminal: Terminal,
+    face: Vec<u8>,
+    plane: Packed<'a>,
+    line: Queue<'a, u8>,
+    strokes: Queue<'a, Stroke>,
 }
 
-/// Feeds all of the bytes. Nobody reads the replies, so they are drained wherever they fill the line.
-fn feed_all<P: Plane, L: Line>(
-    terminal: &mut Terminal,
-    face: &[u8],
-    plane: &mut P,
-    line: &mut L,
-    strokes: &mut Queue<'_, Stroke>,
-    bytes: &[u8],
-) -> Result<usize, Refusal> {
-    let mut taken = 0;
-    for _ in 0..bytes.len() {
-        let delivery = feed(terminal, face, plane, line, strokes, &bytes[taken..])?;
-        taken = delivery.taken().saturating_add(taken).min(bytes.len());
-        if let Delivery::Whole { .. } = delivery {
-            break;
-        }
-        discard(line);
+impl Player<'_> {
+    fn feed(&mut self, bytes: &[u8]) -> Result<Delivery, Refusal> {
+        feed(
+            &mut self.terminal,
+            &self.face,
+            &mut self.plane,
+            &mut self.line,
+            &mut self.strokes,
+            bytes,
+        )
     }
-    Ok(taken)
-}
 
-/// Feeds all of standard input, as it comes, and answers how many bytes were taken.
-fn feed_input<P: Plane>(
-    rt: &HostRuntime,
-    terminal: &mut Terminal,
-    plane: &mut P,
-) -> anyhow::Result<u64> {
-    let face = vec![in rt.alloc(); 255u8; FACE_BYTES]?;
-    let mut chunk = vec![in rt.alloc(); 0u8; 4096]?;
-    let mut replies = [0u8; 64];
-    let mut keys = [Stroke {
-        key: Key::Byte { code: 0 },
-    }; 1];
-    let mut line = Queue::new(&mut replies);
-    let mut strokes = Queue::new(&mut keys);
-    let mut taken = 0u64;
-    for _ in 0..u64::MAX {
-        let count = rt.stdin().read(&mut chunk)?;
-        if count == 0 {
-            break;
-        }
-        let bytes = feed_all(
-            terminal,
-            &face,
-            plane,
-            &mut line,
-            &mut strokes,
-            &chunk[0..count],
-        )?;
-        taken = taken.saturating_add(bytes as u64);
+    /// Takes what waits in the line, as far as a reply can be long.
+    fn discard(&mut self) {
+        let mut replies = [0u8; 64];
+        drain(&mut self.line, &mut replies);
     }
-    Ok(taken)
-}
 
-/// Prints the listing, and answers how many rows have ink.
-fn print_listing<P: Plane>(
-    rt: &HostRuntime,
-    terminal: &Terminal,
-    plane: &P,
-) -> anyhow::Result<usize> {
-    let mut text = vec![in rt.alloc(); 0u8; TEXT_BYTES]?;
-    let length = listing(terminal, plane, &mut text)?;
-    rt.stdout().write_all(&text[0..length])?;
-    Ok((length / 25).saturating_sub(1))
+    /// Feeds all of the bytes. Nobody reads the replies, so they are drained wherever they fill the line.
+    fn feed_all(&mut self, bytes: &[u8]) -> Result<usize, Refusal> {
+        let mut rest = bytes;
+        for _ in 0..bytes.len() {
+            let delivery = self.feed(rest)?;
+            rest = rest.get(delivery.taken()..).unwrap_or(&[]);
+            if let Delivery::Whole { .. } = delivery {
+                break;
+            }
+            self.discard();
+        }
+        Ok(bytes.len() - rest.len())
+    }
+
+    /// Feeds all of standard input, as it comes, and answers how many bytes were taken.
+    fn feed_input(&mut self, rt: &HostRuntime) -> anyhow::Result<u64> {
+        let mut chunk = vec![in rt.alloc(); 0u8; 4096]?;
+        let mut taken = 0u64;
+        // Input need not end, so the reads are counted.
+        for _ in 0..u64::MAX {
+            let count = rt.stdin().read(&mut chunk)?;
+            if count == 0 {
+                break;
+            }
+            let bytes = self.feed_all(&chunk[0..count])?;
+            taken = taken.saturating_add(bytes as u64);
+        }
+        Ok(taken)
+    }
+
+    /// Prints the listing, and answers how many rows have ink.
+    fn print_listing(&self, rt: &HostRuntime) -> anyhow::Result<usize> {
+        let mut text = vec![in rt.alloc(); 0u8; TEXT_BYTES]?;
+        let length = listing(&self.terminal, &self.plane, &mut text)?;
+        rt.stdout().write_all(&text[0..length])?;
+        Ok((length / LENGTH).saturating_sub(1))
+    }
 }
 
 fn run(rt: &HostRuntime) -> anyhow::Result<()> {
     let mut memory = vec![in rt.alloc(); 0u8; PLANE_BYTES]?;
-    let mut plane = Packed::new(&mut memory, SIDE, SIDE);
-    let mut terminal = install(SIDE, SIDE, 0)?;
-    let taken = feed_input(rt, &mut terminal, &mut plane)?;
-    let rows = print_listing(rt, &terminal, &plane)?;
+    let mut replies = [0u8; 64];
+    let mut places = [BLANK; 1];
+    let mut player = Player {
+        terminal: install(SIDE, SIDE, 0)?,
+        face: vec![in rt.alloc(); 255u8; FACE_BYTES]?,
+        plane: Packed::new(&mut memory, SIDE, SIDE),
+        line: Queue::new(&mut replies),
+        strokes: Queue::new(&mut places),
+    };
+    let taken = player.feed_input(rt)?;
+    let rows = player.print_listing(rt)?;
     eprintln!(rt; "{taken} bytes taken, {rows} rows with ink")?;
     Ok(())
 }

@@ -1,6 +1,7 @@
 //! Plays one recording on planes of every make, and calls that are refused, for the gate to compare.
 #![tactic(auto)]
 
+use columns::line::LENGTH;
 use keyboard::key::Key;
 use keyboard::stroke::Stroke;
 use line::packets::Packets;
@@ -20,24 +21,26 @@ use terminal::install::install;
 const WIDTH: usize = 48;
 
 const HEIGHT: usize = 24;
+
+const FACE_BYTES: usize = 1520;
 /// A frame, a ray far past two edges, one from far below, and a line that a new move cuts off.
 const RECORDING: &[u8] =
     b"\x1b:0;0m\x1b:47;0d\x1b:47;23d\x1b:0;23d\x1b:0;0d\x1b:9;3m\x1b:300;90d\x1b:-40;-700m\x1b:30;21d\x1b:5;\x1b:6;19m\x1b:6;15d";
 
+/// What fills a place in which no stroke waits.
+const BLANK: Stroke = Stroke {
+    key: Key::Byte { code: 0 },
+};
+
 fn number<T: Drop>(answer: Result<T, Refusal>) -> u8 {
-    match answer {
-        Ok(_) => 0,
-        Err(refusal) => refusal.number(),
-    }
+    answer.err().map_or(0, |refusal| refusal.number())
 }
 
 /// Feeds bytes with a face and a line of its own, and answers how many were taken.
 fn take<P: Plane>(terminal: &mut Terminal, plane: &mut P, bytes: &[u8]) -> Result<usize, Refusal> {
-    let face = [255u8; 1520];
-    let mut keys = [Stroke {
-        key: Key::Byte { code: 0 },
-    }; 1];
-    let mut strokes = Queue::new(&mut keys);
+    let face = [255u8; FACE_BYTES];
+    let mut places = [BLANK; 1];
+    let mut strokes = Queue::new(&mut places);
     let mut line = Packets::new();
     let delivery = feed(terminal, &face, plane, &mut line, &mut strokes, bytes)?;
     Ok(delivery.taken())
@@ -45,7 +48,7 @@ fn take<P: Plane>(terminal: &mut Terminal, plane: &mut P, bytes: &[u8]) -> Resul
 
 /// Feeds the recording in two deliveries, cut in the middle of a sequence, and prints the listing.
 fn play<P: Plane>(rt: &HostRuntime, name: &str, plane: &mut P) -> anyhow::Result<()> {
-    let mut text = vec![in rt.alloc(); 0u8; 25 * (HEIGHT + 1)]?;
+    let mut text = vec![in rt.alloc(); 0u8; LENGTH * (HEIGHT + 1)]?;
     let mut terminal = install(WIDTH, HEIGHT, 1)?;
     let first = take(&mut terminal, plane, &RECORDING[0..41])?;
     let second = take(&mut terminal, plane, &RECORDING[41..])?;

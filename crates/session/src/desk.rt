@@ -1,56 +1,136 @@
-//! A terminal with its face and the memory of its plane.
-use crate::answer::make_call;
+//! A terminal that stands, with all that it stands on.
+use crate::answer::{print_answer, print_delivery, print_listing, print_pixels, print_size};
 use crate::command::Call;
+use crate::face::solid;
 use crate::fault::Fault;
-use crate::sheet::{PlaneKind, Sheet};
+use crate::ink::put_ink;
+use crate::sheet::{Memory, Shape, Sheet};
 use keyboard::stroke::Stroke;
 use line::Line;
+use plane::Plane;
 use plane::packed::Packed;
 use plane::tiled::Tiled;
 use plane::turned::Turned;
 use queue::Queue;
+use refusal::Refusal;
+use runs::delivery::Delivery;
 use state::terminal::Terminal;
+use std::alloc::{AllocError, Global};
+use terminal::feed::feed;
+use terminal::key::key;
+use terminal::point::point;
 
+/// A terminal with all that a call on it takes but the plane.
 #[derive(Drop)]
-pub struct Desk {
+pub struct Station<'a, L> {
     pub terminal: Terminal,
     pub face: Vec<u8>,
+    pub line: L,
+    pub strokes: Queue<'a, Stroke>,
+}
+
+/// A station with the memory of its plane.
+#[derive(Drop)]
+pub struct Desk<'a, L> {
+    pub station: Station<'a, L>,
     pub sheet: Sheet,
 }
 
-impl Desk {
-    /// Makes a call on the plane, of whatever make it is.
-    pub(crate) fn call<L: Line>(
+impl<L: Line> Station<'_, L> {
+    fn feed<P: Plane>(&mut self, plane: &mut P, bytes: &[u8]) -> Result<Delivery, Refusal> {
+        feed(
+            &mut self.terminal,
+            &self.face,
+            plane,
+            &mut self.line,
+            &mut self.strokes,
+            bytes,
+        )
+    }
+
+    fn key<P: Plane>(&mut self, plane: &mut P, number: u8) -> Result<(), Refusal> {
+        key(
+            &mut self.terminal,
+            &self.face,
+            plane,
+            &mut self.line,
+            &mut self.strokes,
+            number,
+        )
+    }
+
+    fn point<P: Plane>(&mut self, plane: &mut P, x: usize, y: usize) -> Result<(), Refusal> {
+        point(
+            &mut self.terminal,
+            &self.face,
+            plane,
+            &mut self.line,
+            &mut self.strokes,
+            x,
+            y,
+        )
+    }
+
+    /// Makes a call and prints what it answered.
+    fn make<P: Plane>(
         &mut self,
         rt: &HostRuntime,
-        line: &mut L,
-        strokes: &mut Queue<'_, Stroke>,
+        plane: &mut P,
         call: &Call,
     ) -> Result<(), Fault> {
-        let terminal = &mut self.terminal;
-        let face = &self.face;
-        let sheet = &mut self.sheet;
-        let width = sheet.width;
-        let height = sheet.height;
-        match sheet.kind {
-            PlaneKind::Packed => {
-                let mut plane = Packed::new(&mut sheet.bytes, width, height);
-                make_call(rt, terminal, face, &mut plane, line, strokes, call)
+        match call {
+            Call::Feed { bytes } => print_delivery(rt, self.feed(plane, bytes)),
+            Call::Key { number } => print_answer(rt, "key", self.key(plane, *number)),
+            Call::Point { x, y } => print_answer(rt, "point", self.point(plane, *x, *y)),
+            Call::Ink { seed } => {
+                put_ink(plane, *seed);
+                println!(rt; "ink")?;
+                Ok(())
             }
-            PlaneKind::Tiled => {
-                let mut plane = Tiled::new(&mut sheet.tiles, width, height);
-                make_call(rt, terminal, face, &mut plane, line, strokes, call)
+            Call::Listing { size } => print_listing(rt, &self.terminal, plane, *size),
+            Call::Pixels => print_pixels(rt, plane),
+            Call::Size => print_size(rt, plane),
+        }
+    }
+}
+
+impl<'a, L: Drop> Desk<'a, L> {
+    /// A new terminal's desk, with a solid face and a plane of zeros.
+    pub(crate) fn new(
+        heap: Global,
+        shape: Shape,
+        terminal: Terminal,
+        line: L,
+        strokes: Queue<'a, Stroke>,
+    ) -> Result<Desk<'a, L>, AllocError> {
+        let station = Station {
+            terminal,
+            face: solid(heap)?,
+            line,
+            strokes,
+        };
+        let sheet = Sheet::blank(heap, shape)?;
+        Ok(Desk { station, sheet })
+    }
+}
+
+impl<L: Line> Desk<'_, L> {
+    /// Makes a call on the plane, of whatever make it is.
+    pub(crate) fn call(&mut self, rt: &HostRuntime, call: &Call) -> Result<(), Fault> {
+        let width = self.sheet.width;
+        let height = self.sheet.height;
+        let station = &mut self.station;
+        match &mut self.sheet.memory {
+            Memory::Packed(bytes) => station.make(rt, &mut Packed::new(bytes, width, height), call),
+            Memory::Tiled(tiles) => station.make(rt, &mut Tiled::new(tiles, width, height), call),
+            Memory::Turned(bytes) => {
+                let below = Packed::new(bytes, height, width);
+                station.make(rt, &mut Turned { below }, call)
             }
-            PlaneKind::Turned => {
-                let below = Packed::new(&mut sheet.bytes, height, width);
-                let mut plane = Turned { below };
-                make_call(rt, terminal, face, &mut plane, line, strokes, call)
-            }
-            PlaneKind::TurnedTwice => {
-                let below = Packed::new(&mut sheet.bytes, width, height);
+            Memory::TurnedTwice(bytes) => {
+                let below = Packed::new(bytes, width, height);
                 let below = Turned { below };
-                let mut plane = Turned { below };
-                make_call(rt, terminal, face, &mut plane, line, strokes, call)
+                station.make(rt, &mut Turned { below }, call)
             }
         }
     }

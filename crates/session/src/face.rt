@@ -12,11 +12,9 @@ pub(crate) fn solid(heap: Global) -> Result<Vec<u8>, AllocError> {
 
 // A face in which neighbours differ.
 fn ramp(heap: Global) -> Result<Vec<u8>, AllocError> {
-    let mut face = Vec::new(heap);
-    for i in 0..FACE_BYTES {
-        face.push(((i * 37 + i / 16 * 11) % 256) as u8)?;
-    }
-    Ok(face)
+    (0..FACE_BYTES as u32)
+        .map(|i| ((i * 37 + i / 16 * 11) % 256) as u8)
+        .collect(heap)
 }
 
 /// The face that a word names, or whose bytes it has.

@@ -1,56 +1,48 @@
 //! Why a script stops.
+use hex::FromHexError;
 use std::alloc::AllocError;
-use std::{fmt, io};
+use std::io;
+use thiserror::Error;
 
-#[derive(Clone, Copy, Debug)]
+#[derive(Debug, Drop, Error)]
 pub enum Fault {
+    #[error("no such command")]
     UnknownCommand,
+    #[error("a word is missing")]
     MissingWord,
+    #[error("a word too many")]
     ExtraWord,
+    #[error("no decimal number")]
     BadNumber,
+    #[error("no bytes in hexadecimal digits")]
     BadHexadecimal,
+    #[error("no such plane")]
     UnknownPlane,
+    #[error("no such line")]
     UnknownLine,
+    #[error("the stroke memory has 0 to 64 places")]
     TooManyPlaces,
     /// A call, and no install before it was accepted.
+    #[error("no terminal stands")]
     NoTerminal,
-    Memory,
+    #[error("no memory is left")]
+    Memory(#[from] AllocError),
+    #[error("input or output failed")]
     Transfer,
 }
 
-impl Fault {
-    fn reason(self) -> &'static str {
-        match self {
-            Fault::UnknownCommand => "no such command",
-            Fault::MissingWord => "a word is missing",
-            Fault::ExtraWord => "a word too many",
-            Fault::BadNumber => "no decimal number",
-            Fault::BadHexadecimal => "no bytes in hexadecimal digits",
-            Fault::UnknownPlane => "no such plane",
-            Fault::UnknownLine => "no such line",
-            Fault::TooManyPlaces => "the stroke memory has 0 to 64 places",
-            Fault::NoTerminal => "no terminal stands",
-            Fault::Memory => "no memory is left",
-            Fault::Transfer => "input or output failed",
-        }
-    }
-}
-
-impl fmt::Display for Fault {
-    fn fmt<W: fmt::Write>(&self, f: &mut fmt::Formatter<W>) -> fmt::Result {
-        let reason = self.reason();
-        write!(f, "{reason}")
-    }
-}
-
-impl From<AllocError> for Fault {
-    fn from(_: AllocError) -> Fault {
-        Fault::Memory
-    }
-}
-
+// By hand: the derive would keep the error, whose message the system makes.
 impl From<io::Error> for Fault {
     fn from(_: io::Error) -> Fault {
         Fault::Transfer
+    }
+}
+
+impl From<FromHexError> for Fault {
+    fn from(error: FromHexError) -> Fault {
+        match error {
+            FromHexError::OutOfMemory => Fault::Memory(AllocError),
+            _ => Fault::BadHexadecimal,
+        }
     }
 }

@@ -8,35 +8,34 @@ struct Numbers {
     state: u64,
 }
 
-impl Numbers {
-    fn next(&mut self) -> u64 {
+impl Iterator for Numbers {
+    type Item = u64;
+
+    fn next(&mut self) -> Option<u64> {
         self.state = self.state.wrapping_add(0x9E3779B97F4A7C15);
         let z = self.state;
         let z = (z ^ (z >> 30)).wrapping_mul(0xBF58476D1CE4E5B9);
         let z = (z ^ (z >> 27)).wrapping_mul(0x94D049BB133111EB);
-        z ^ (z >> 31)
+        Some(z ^ (z >> 31))
     }
 }
 
-// Bit 7 belongs to the leftmost of eight pixels.
-fn bit_for(number: u64, x: usize) -> bool {
-    (number >> (7 - x % 8)) & 1 == 1
+// Gives eight pixels from x on by a number's low byte.
+fn ink_byte<P: Plane>(plane: &mut P, x: usize, y: usize, number: u64) {
+    for i in 0..8 {
+        let _ = plane.set(x.saturating_add(i), y, (number >> (7 - i)) & 1 == 1);
+    }
 }
 
 fn ink_row<P: Plane>(plane: &mut P, y: usize, numbers: &mut Numbers) {
-    let mut number = 0;
-    for x in 0..plane.width() {
-        if x % 8 == 0 {
-            number = numbers.next();
-        }
-        let _ = plane.set(x, y, bit_for(number, x));
+    for (x, number) in (0..plane.width()).step_by(8).zip(numbers) {
+        ink_byte(plane, x, y, number);
     }
 }
 
 fn clear_row<P: Plane>(plane: &mut P, y: usize) {
-    for x in 0..plane.width() {
-        let _ = plane.set(x, y, false);
-    }
+    let width = plane.width();
+    plane.fill_run(y, 0, width, false);
 }
 
 /// Gives every pixel: the low bytes of the numbers of the seed, or 0 where the seed is 0.
@@ -51,23 +50,20 @@ pub(crate) fn put_ink<P: Plane>(plane: &mut P, seed: u64) {
     }
 }
 
-fn push_row<P: Plane>(plane: &P, y: usize, bytes: &mut Vec<u8>) -> Result<(), AllocError> {
-    let mut byte = 0u8;
-    for x in 0..plane.width() {
-        let bit = matches!(plane.ask(x, y), Ok(true));
-        byte = byte << 1 | bit as u8;
-        if x % 8 == 7 {
-            bytes.push(byte)?;
-        }
-    }
-    Ok(())
+// The eight pixels from x on.
+fn byte_at<P: Plane>(plane: &P, x: usize, y: usize) -> u8 {
+    (0..8).fold(0u8, |byte, i| {
+        let bit = plane.ask(x.saturating_add(i), y) == Ok(true);
+        byte << 1 | u8::from(bit)
+    })
 }
 
 /// Every pixel.
 pub(crate) fn pixels_of<P: Plane>(heap: Global, plane: &P) -> Result<Vec<u8>, AllocError> {
     let mut bytes = Vec::new(heap);
     for y in (0..plane.height()).rev() {
-        push_row(plane, y, &mut bytes)?;
+        let row = (0..plane.width()).step_by(8).map(|x| byte_at(plane, x, y));
+        bytes.extend(row)?;
     }
     Ok(bytes)
 }

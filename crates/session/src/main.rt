@@ -8,7 +8,6 @@ mod face;
 mod fault;
 mod hexadecimal;
 mod ink;
-mod name;
 mod peek;
 mod script;
 mod serve;
@@ -29,7 +28,7 @@ fn read_input(rt: &HostRuntime) -> Result<Vec<u8>, Fault> {
 
 fn main(rt: HostRuntime) -> Result<ExitCode, Fault> {
     let text = read_input(&rt)?;
-    let mut script = script::Script::new(&text);
+    let mut script = script::Script::new(rt.alloc(), &text);
     if let Err(fault) = serve::play(&rt, &mut script) {
         eprintln!(rt; "line {}: {fault}", script.line())?;
         return Ok(ExitCode::FAILURE);

@@ -2,33 +2,20 @@
 use line::Line;
 use line::packets::Packets;
 use queue::Queue;
-use std::alloc::{AllocError, Global};
 
-pub trait Peek: Line {
-    /// The bytes that wait, all of which stay.
-    fn waiting(&self, heap: Global) -> Result<Vec<u8>, AllocError>;
+pub trait Peek: Line + Drop {
+    /// The byte behind `i` others, which stays.
+    fn peek(&self, i: usize) -> Option<u8>;
 }
 
 impl Peek for Queue<'_, u8> {
-    fn waiting(&self, heap: Global) -> Result<Vec<u8>, AllocError> {
-        let mut bytes = Vec::new(heap);
-        for i in 0..self.len() {
-            if let Some(byte) = self.get(i) {
-                bytes.push(byte)?;
-            }
-        }
-        Ok(bytes)
+    fn peek(&self, i: usize) -> Option<u8> {
+        self.get(i)
     }
 }
 
 impl Peek for Packets {
-    fn waiting(&self, heap: Global) -> Result<Vec<u8>, AllocError> {
-        let mut bytes = Vec::new(heap);
-        for i in 0..self.capacity() {
-            if let Some(byte) = self.get(i) {
-                bytes.push(byte)?;
-            }
-        }
-        Ok(bytes)
+    fn peek(&self, i: usize) -> Option<u8> {
+        self.get(i)
     }
 }

@@ -1,59 +1,66 @@
 //! A script: text, a command a line.
+ghost use Rattle.std.specs.Prelude.{length};
+ghost use Rattle.std.specs.Iterator.{at_most};
+
 use crate::command::Command;
 use crate::fault::Fault;
 use std::alloc::Global;
 
 #[derive(Drop)]
-pub struct Script<'a> {
-    text: &'a [u8],
-    at: usize,
-    line: u64,
+struct Lines<'a> {
+    rest: &'a [u8],
+    // How many lines were read.
+    count: u64,
 }
 
-fn line_end(text: &[u8], at: usize) -> usize {
-    for i in at..text.len() {
-        if text[i] == b'\n' {
-            return i;
+impl<'a> Iterator for Lines<'a> {
+    type Item = &'a [u8];
+
+    ghost remaining = { λ s. at_most (length s.rest.now) };
+
+    fn next(&mut self) -> Option<&'a [u8]> {
+        let rest = self.rest;
+        if rest.is_empty() {
+            return None;
         }
+        let mut parts = rest.splitn(2, |byte| *byte == b'\n');
+        let line = parts.next()?;
+        self.rest = parts.next().unwrap_or(&[]);
+        self.count = self.count.saturating_add(1);
+        Some(line)
     }
-    text.len()
+}
+
+/// The commands that are left.
+#[derive(Drop)]
+pub struct Script<'a> {
+    heap: Global,
+    lines: Lines<'a>,
 }
 
 impl<'a> Script<'a> {
-    pub(crate) fn new(text: &'a [u8]) -> Script<'a> {
-        Script {
-            text,
-            at: 0,
-            line: 0,
-        }
+    pub(crate) fn new(heap: Global, text: &'a [u8]) -> Script<'a> {
+        let lines = Lines {
+            rest: text,
+            count: 0,
+        };
+        Script { heap, lines }
     }
 
     /// The number of the line that was read last, from 1 on.
     pub(crate) fn line(&self) -> u64 {
-        self.line
+        self.lines.count
     }
+}
 
-    fn next_line(&mut self) -> Option<&'a [u8]> {
-        if self.at >= self.text.len() {
-            return None;
-        }
-        let end = line_end(self.text, self.at);
-        let line = self.text.get(self.at..end);
-        self.at = end.saturating_add(1);
-        self.line = self.line.saturating_add(1);
-        line
-    }
+impl Iterator for Script<'_> {
+    type Item = Result<Command, Fault>;
 
-    /// The next command, or none at the end.
-    pub(crate) fn next_command(&mut self, heap: Global) -> Result<Option<Command>, Fault> {
-        for _ in 0..u64::MAX {
-            let Some(line) = self.next_line() else {
-                break;
-            };
-            if let Some(command) = Command::read(heap, line)? {
-                return Ok(Some(command));
-            }
-        }
-        Ok(None)
+    ghost remaining = { λ s. at_most (length s.lines.rest.now) };
+
+    fn next(&mut self) -> Option<Result<Command, Fault>> {
+        let heap = self.heap;
+        self.lines
+            .find_map(|line| Command::read(heap, line).transpose())
     }
 }

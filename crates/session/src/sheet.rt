@@ -1,4 +1,5 @@
 //! The memory of a plane of any make. The plane itself is made over it for each call.
+use crate::fault::Fault;
 use plane::memory::check_size;
 use std::alloc::{AllocError, Global};
 
@@ -12,37 +13,67 @@ pub enum PlaneKind {
     TurnedTwice,
 }
 
-#[derive(Drop)]
-pub struct Sheet {
-    pub kind: PlaneKind,
+impl TryFrom<&[u8]> for PlaneKind {
+    type Error = Fault;
+
+    fn try_from(word: &[u8]) -> Result<PlaneKind, Fault> {
+        match word {
+            b"packed" => Ok(PlaneKind::Packed),
+            b"tiled" => Ok(PlaneKind::Tiled),
+            b"turned" => Ok(PlaneKind::Turned),
+            b"turned2" => Ok(PlaneKind::TurnedTwice),
+            _ => Err(Fault::UnknownPlane),
+        }
+    }
+}
+
+/// What a plane is to be.
+#[derive(Clone, Copy)]
+pub struct Shape {
     pub width: usize,
     pub height: usize,
-    pub bytes: Vec<u8>,
-    pub tiles: Vec<u64>,
+    pub kind: PlaneKind,
+}
+
+impl Shape {
+    /// How many pixels it has, none where the size is no plane's.
+    fn pixels(&self) -> usize {
+        match check_size(self.width, self.height) {
+            Ok(()) => self.width.saturating_mul(self.height),
+            Err(_) => 0,
+        }
+    }
+}
+
+#[derive(Drop)]
+pub enum Memory {
+    Packed(Vec<u8>),
+    Tiled(Vec<u64>),
+    Turned(Vec<u8>),
+    TurnedTwice(Vec<u8>),
+}
+
+#[derive(Drop)]
+pub struct Sheet {
+    pub width: usize,
+    pub height: usize,
+    pub memory: Memory,
 }
 
 impl Sheet {
     /// Memory of zeros, none where the size is no plane's.
-    pub(crate) fn blank(
-        heap: Global,
-        kind: PlaneKind,
-        width: usize,
-        height: usize,
-    ) -> Result<Sheet, AllocError> {
-        let pixels = match check_size(width, height) {
-            Ok(()) => width.saturating_mul(height),
-            Err(_) => 0,
-        };
-        let (bytes, tiles) = match kind {
-            PlaneKind::Tiled => (0, pixels / 64),
-            PlaneKind::Packed | PlaneKind::Turned | PlaneKind::TurnedTwice => (pixels / 8, 0),
+    pub(crate) fn blank(heap: Global, shape: Shape) -> Result<Sheet, AllocError> {
+        let bytes = shape.pixels() / 8;
+        let memory = match shape.kind {
+            PlaneKind::Packed => Memory::Packed(vec![in heap; 0u8; bytes]?),
+            PlaneKind::Tiled => Memory::Tiled(vec![in heap; 0u64; bytes / 8]?),
+            PlaneKind::Turned => Memory::Turned(vec![in heap; 0u8; bytes]?),
+            PlaneKind::TurnedTwice => Memory::TurnedTwice(vec![in heap; 0u8; bytes]?),
         };
         Ok(Sheet {
-            kind,
-            width,
-            height,
-            bytes: vec![in heap; 0u8; bytes]?,
-            tiles: vec![in heap; 0u64; tiles]?,
+            width: shape.width,
+            height: shape.height,
+            memory,
         })
     }
 }

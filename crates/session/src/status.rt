@@ -1,118 +1,155 @@
 //! The state of a terminal as a line of words.
-use crate::fault::Fault;
-use crate::hexadecimal::digits_of;
+use crate::desk::Station;
 use crate::peek::Peek;
 use keyboard::stroke::Stroke;
 use queue::Queue;
-use raster::region::Region;
+use raster::region::{Point, Region};
 use state::terminal::{Gin, Place, Terminal};
 use state::window::Window;
+use std::fmt;
 
 const REGIONS: u8 = 8;
 
-// A value with the mark that follows it.
-fn print_part(rt: &HostRuntime, value: i32, mark: &str) -> Result<(), Fault> {
-    print!(rt; "{value}{mark}")?;
-    Ok(())
-}
+/// A flag, 0 or 1.
+#[derive(Clone, Copy)]
+struct Flag(bool);
 
-fn print_word(rt: &HostRuntime, name: &str, value: u8) -> Result<(), Fault> {
-    print!(rt; "{name}={value} ")?;
-    Ok(())
-}
-
-fn print_flag(rt: &HostRuntime, name: &str, on: bool) -> Result<(), Fault> {
-    print_word(rt, name, if on { 1 } else { 0 })
-}
-
-fn print_place(rt: &HostRuntime, name: &str, x: i32, y: i32) -> Result<(), Fault> {
-    print!(rt; "{name}={x},{y} ")?;
-    Ok(())
-}
-
-fn print_pointer(rt: &HostRuntime, at: Place) -> Result<(), Fault> {
-    print_place(rt, "pointer", at.x as i32, at.y as i32)
-}
-
-// Held, text operation, reverse, right column and wrap are still those of a new terminal.
-fn print_selected(rt: &HostRuntime, window: Window) -> Result<(), Fault> {
-    let at = window.position;
-    print_word(rt, "sel", window.number)?;
-    print_place(rt, "pos", at.x as i32, at.y as i32)?;
-    print_flag(rt, "held", false)?;
-    print_word(rt, "draw", window.pen.drawing.number())?;
-    rt.print("text=3 rev=0 right=0 wrap=1 ")?;
-    Ok(())
-}
-
-// Mode 20 and graph mode are still those of a new terminal, and so are the stops: every eighth column from the first on.
-fn print_modes(rt: &HostRuntime, terminal: &Terminal) -> Result<(), Fault> {
-    let keys = terminal.modes.keys;
-    print_flag(rt, "last", terminal.modes.last_point)?;
-    print_flag(rt, "ckeys", keys.cursor_keys)?;
-    print_flag(rt, "mode20", false)?;
-    print_flag(rt, "keypad", keys.keypad_application)?;
-    print_flag(rt, "locked", terminal.locked)?;
-    print_pointer(rt, terminal.pointer)?;
-    print_flag(rt, "graph", false)?;
-    print_flag(rt, "gin", !matches!(terminal.gin, Gin::Off))?;
-    rt.print("stops=80808080808080808080808080808080 ")?;
-    Ok(())
-}
-
-fn print_area(rt: &HostRuntime, area: Region) -> Result<(), Fault> {
-    print_part(rt, area.left as i32, ",")?;
-    print_part(rt, area.bottom as i32, ",")?;
-    print_part(rt, area.width as i32, ",")?;
-    print_part(rt, area.height as i32, ":")
-}
-
-fn print_region(rt: &HostRuntime, number: u8, window: Window) -> Result<(), Fault> {
-    let at = window.position;
-    print!(rt; "r{number}=")?;
-    print_area(rt, window.area)?;
-    print_part(rt, at.x as i32, ",")?;
-    print_part(rt, at.y as i32, ":0:")?;
-    print_part(rt, window.pen.drawing.number() as i32, ",3,0 ")
-}
-
-// All regions but the selected one are still those of a new terminal.
-fn print_regions(rt: &HostRuntime, terminal: &Terminal) -> Result<(), Fault> {
-    let other = Terminal::new(terminal.setup).window;
-    for number in 0..REGIONS {
-        if number == terminal.window.number {
-            print_region(rt, number, terminal.window)?;
-        } else {
-            print_region(rt, number, other)?;
-        }
+impl fmt::Display for Flag {
+    fn fmt<W: fmt::Write>(&self, f: &mut fmt::Formatter<W>) -> fmt::Result {
+        write!(f, "{}", u8::from(self.0))
     }
-    Ok(())
 }
 
-fn print_strokes(rt: &HostRuntime, strokes: &Queue<'_, Stroke>) -> Result<(), Fault> {
-    print!(rt; "strokes=")?;
-    for i in 0..strokes.len() {
-        if let Some(stroke) = strokes.get(i) {
-            rt.print(if i == 0 { "" } else { "," })?;
-            rt.print(stroke.number())?;
-        }
+/// The selected region. What text needs is still as in a new terminal: held, text operation, reverse, right column and wrap.
+#[derive(Clone, Copy)]
+struct Selected(Window);
+
+impl fmt::Display for Selected {
+    fn fmt<W: fmt::Write>(&self, f: &mut fmt::Formatter<W>) -> fmt::Result {
+        let Window {
+            number,
+            position,
+            pen,
+            ..
+        } = self.0;
+        let Point { x, y } = position;
+        let drawing = pen.drawing.number();
+        write!(
+            f,
+            "sel={number} pos={x},{y} held=0 draw={drawing} text=3 rev=0 right=0 wrap=1"
+        )
     }
-    Ok(())
 }
 
-/// Prints the state.
-pub(crate) fn print_state<L: Peek>(
-    rt: &HostRuntime,
-    terminal: &Terminal,
-    line: &L,
-    strokes: &Queue<'_, Stroke>,
-) -> Result<(), Fault> {
-    print_word(rt, "emu", terminal.emulation.number())?;
-    print_selected(rt, terminal.window)?;
-    print_modes(rt, terminal)?;
-    print_regions(rt, terminal)?;
-    print_strokes(rt, strokes)?;
-    let waiting = digits_of(rt.alloc(), &line.waiting(rt.alloc())?)?;
-    println!(rt; " waiting={waiting} room={}", line.room())?;
-    Ok(())
+/// The modes, the lock and the pointer. Mode 20 and graph mode are still those of a new terminal, and so are the stops: every
+/// eighth column from the first on.
+#[derive(Clone, Copy)]
+struct Modes<'a>(&'a Terminal);
+
+impl fmt::Display for Modes<'_> {
+    fn fmt<W: fmt::Write>(&self, f: &mut fmt::Formatter<W>) -> fmt::Result {
+        let terminal = self.0;
+        let last = Flag(terminal.modes.last_point);
+        let cursor = Flag(terminal.modes.keys.cursor_keys);
+        let keypad = Flag(terminal.modes.keys.keypad_application);
+        let locked = Flag(terminal.locked);
+        let Place { x, y } = terminal.pointer;
+        let gin = Flag(!matches!(terminal.gin, Gin::Off));
+        write!(
+            f,
+            "last={last} ckeys={cursor} mode20=0 keypad={keypad} locked={locked} pointer={x},{y}"
+        )?;
+        write!(
+            f,
+            " graph=0 gin={gin} stops=80808080808080808080808080808080"
+        )
+    }
+}
+
+/// A region under its number: its area, its position and its pen.
+#[derive(Clone, Copy)]
+struct Numbered {
+    number: u8,
+    window: Window,
+}
+
+impl fmt::Display for Numbered {
+    fn fmt<W: fmt::Write>(&self, f: &mut fmt::Formatter<W>) -> fmt::Result {
+        let number = self.number;
+        let Region {
+            left,
+            bottom,
+            width,
+            height,
+        } = self.window.area;
+        let Point { x, y } = self.window.position;
+        let drawing = self.window.pen.drawing.number();
+        write!(
+            f,
+            "r{number}={left},{bottom},{width},{height}:{x},{y}:0:{drawing},3,0"
+        )
+    }
+}
+
+/// The regions. All but the selected one are still those of a new terminal.
+#[derive(Clone, Copy)]
+struct Regions<'a>(&'a Terminal);
+
+impl fmt::Display for Regions<'_> {
+    fn fmt<W: fmt::Write>(&self, f: &mut fmt::Formatter<W>) -> fmt::Result {
+        let selected = self.0.window;
+        let other = Terminal::new(self.0.setup).window;
+        for number in 0..REGIONS {
+            let window = if number == selected.number {
+                selected
+            } else {
+                other
+            };
+            write!(f, "{} ", Numbered { number, window })?;
+        }
+        Ok(())
+    }
+}
+
+/// The numbers of the strokes that wait.
+#[derive(Clone, Copy)]
+struct Strokes<'a, 'q>(&'a Queue<'q, Stroke>);
+
+impl fmt::Display for Strokes<'_, '_> {
+    fn fmt<W: fmt::Write>(&self, f: &mut fmt::Formatter<W>) -> fmt::Result {
+        let strokes = (0..self.0.len()).filter_map(|i| self.0.get(i));
+        for (i, stroke) in strokes.enumerate() {
+            f.write_str(if i == 0 { "" } else { "," })?;
+            write!(f, "{}", stroke.number())?;
+        }
+        Ok(())
+    }
+}
+
+/// The bytes that wait in a line, as hexadecimal digits.
+#[derive(Drop)]
+struct Waiting<'a, L>(&'a L);
+
+impl<L: Peek> fmt::Display for Waiting<'_, L> {
+    fn fmt<W: fmt::Write>(&self, f: &mut fmt::Formatter<W>) -> fmt::Result {
+        for byte in (0..self.0.capacity()).map_while(|i| self.0.peek(i)) {
+            write!(f, "{byte:02x}")?;
+        }
+        Ok(())
+    }
+}
+
+/// The state.
+impl<L: Peek> fmt::Display for Station<'_, L> {
+    fn fmt<W: fmt::Write>(&self, f: &mut fmt::Formatter<W>) -> fmt::Result {
+        let emulation = self.terminal.emulation.number();
+        let selected = Selected(self.terminal.window);
+        let modes = Modes(&self.terminal);
+        let regions = Regions(&self.terminal);
+        let strokes = Strokes(&self.strokes);
+        let waiting = Waiting(&self.line);
+        let room = self.line.room();
+        write!(f, "emu={emulation} {selected} {modes} {regions}")?;
+        write!(f, "strokes={strokes} waiting={waiting} room={room}")
+    }
 }

@@ -1,58 +1,54 @@
 //! The words of a line, parted by spaces.
+ghost use Rattle.std.specs.Prelude.{length};
+ghost use Rattle.std.specs.Iterator.{at_most};
+
 use crate::fault::Fault;
 
 #[derive(Drop)]
 pub struct Words<'a> {
-    line: &'a [u8],
-    at: usize,
-}
-
-// The first place from `at` on where the spaces end or, if not `spaces`, begin.
-fn past(line: &[u8], at: usize, spaces: bool) -> usize {
-    for i in at..line.len() {
-        if (line[i] == b' ') != spaces {
-            return i;
-        }
-    }
-    line.len()
+    rest: &'a [u8],
 }
 
 // A number that no memory counts to is as good as the highest.
-fn decimal(word: &[u8]) -> Option<usize> {
-    let mut number = 0usize;
-    for byte in word {
-        let digit = match *byte {
-            b'0'..=b'9' => (*byte - b'0') as usize,
-            _ => return None,
-        };
-        number = number.saturating_mul(10).saturating_add(digit);
+fn decimal(word: &[u8]) -> Result<usize, Fault> {
+    word.iter().try_fold(0usize, |number, byte| {
+        let digit = char::from(*byte).to_digit(10).ok_or(Fault::BadNumber)?;
+        Ok(number.saturating_mul(10).saturating_add(digit as usize))
+    })
+}
+
+impl<'a> Iterator for Words<'a> {
+    type Item = &'a [u8];
+
+    ghost remaining = { λ s. at_most (length s.rest.now) };
+
+    fn next(&mut self) -> Option<&'a [u8]> {
+        let rest = self.rest;
+        let start = rest.iter().position(|byte| *byte != b' ')?;
+        let (_, rest) = rest.split_at(start);
+        let end = rest.iter().position(|byte| *byte == b' ');
+        let (word, rest) = rest.split_at(end.unwrap_or(rest.len()));
+        self.rest = rest;
+        Some(word)
     }
-    Some(number)
 }
 
 impl<'a> Words<'a> {
     pub(crate) fn new(line: &'a [u8]) -> Words<'a> {
-        Words { line, at: 0 }
-    }
-
-    /// The next word, if there is one.
-    pub(crate) fn next(&mut self) -> Option<&'a [u8]> {
-        let start = past(self.line, self.at, true);
-        let end = past(self.line, start, false);
-        self.at = end;
-        if start < end {
-            self.line.get(start..end)
-        } else {
-            None
-        }
+        Words { rest: line }
     }
 
     pub(crate) fn word(&mut self) -> Result<&'a [u8], Fault> {
         self.next().ok_or(Fault::MissingWord)
     }
 
+    /// What the next word names.
+    pub(crate) fn named<T: TryFrom<&'a [u8], Error = Fault>>(&mut self) -> Result<T, Fault> {
+        T::try_from(self.word()?)
+    }
+
     pub(crate) fn number(&mut self) -> Result<usize, Fault> {
-        decimal(self.word()?).ok_or(Fault::BadNumber)
+        decimal(self.word()?)
     }
 
     /// A number, or 255 for one that is above.
@@ -62,10 +58,7 @@ impl<'a> Words<'a> {
 
     /// The number that may stand last.
     pub(crate) fn number_or(&mut self, usual: usize) -> Result<usize, Fault> {
-        match self.next() {
-            Some(word) => decimal(word).ok_or(Fault::BadNumber),
-            None => Ok(usual),
-        }
+        self.next().map_or(Ok(usual), decimal)
     }
 
     /// That no word is left.
