@@ -2,7 +2,6 @@
 #![tactic(auto)]
 
 use columns::line::LENGTH;
-use keyboard::key::Key;
 use keyboard::stroke::Stroke;
 use line::drain;
 use plane::packed::Packed;
@@ -12,21 +11,14 @@ use refusal::Refusal;
 use runs::delivery::Delivery;
 use state::terminal::Terminal;
 use std::io::{Read, Write};
-use terminal::feed::feed;
 use terminal::install::install;
+use terminal::session::{FACE_BYTES, Session};
 
 const SIDE: usize = 512;
 
 const PLANE_BYTES: usize = SIDE * SIDE / 8;
 /// A line for each row, and the last.
 const TEXT_BYTES: usize = LENGTH * (SIDE + 1);
-
-const FACE_BYTES: usize = 1520;
-
-/// What fills a place in which no stroke waits.
-const BLANK: Stroke = Stroke {
-    key: Key::Byte { code: 0 },
-};
 
 /// A terminal with all that bytes change, and the face that they draw with.
 #[derive(Drop)]
@@ -40,14 +32,14 @@ struct Player<'a> {
 
 impl Player<'_> {
     fn feed(&mut self, bytes: &[u8]) -> Result<Delivery, Refusal> {
-        feed(
-            &mut self.terminal,
-            &self.face,
-            &mut self.plane,
-            &mut self.line,
-            &mut self.strokes,
-            bytes,
-        )
+        let mut session = Session {
+            terminal: &mut self.terminal,
+            face: &self.face,
+            plane: &mut self.plane,
+            line: &mut self.line,
+            strokes: &mut self.strokes,
+        };
+        session.feed(bytes)
     }
 
     /// Takes what waits in the line, as far as a reply can be long.
@@ -61,8 +53,8 @@ impl Player<'_> {
         let mut rest = bytes;
         for _ in 0..bytes.len() {
             let delivery = self.feed(rest)?;
-            rest = rest.get(delivery.taken()..).unwrap_or(&[]);
-            if let Delivery::Whole { .. } = delivery {
+            rest = rest.get(delivery.taken..).unwrap_or(&[]);
+            if delivery.shortage.is_none() {
                 break;
             }
             self.discard();
@@ -98,7 +90,7 @@ impl Player<'_> {
 fn run(rt: &HostRuntime) -> anyhow::Result<()> {
     let mut memory = vec![in rt.alloc(); 0u8; PLANE_BYTES]?;
     let mut replies = [0u8; 64];
-    let mut places = [BLANK; 1];
+    let mut places = [Stroke::BLANK; 1];
     let mut player = Player {
         terminal: install(SIDE, SIDE, 0)?,
         face: vec![in rt.alloc(); 255u8; FACE_BYTES]?,

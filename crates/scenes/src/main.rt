@@ -2,11 +2,10 @@
 #![tactic(auto)]
 
 use columns::line::LENGTH;
-use keyboard::key::Key;
 use keyboard::stroke::Stroke;
 use line::packets::Packets;
 use plane::Plane;
-use plane::memory::{check_bytes, check_tiles};
+use plane::memory::check_memory;
 use plane::packed::Packed;
 use plane::tiled::Tiled;
 use plane::turned::Turned;
@@ -15,35 +14,34 @@ use queue::Queue;
 use refusal::Refusal;
 use state::terminal::Terminal;
 use std::io::Write;
-use terminal::feed::feed;
 use terminal::install::install;
+use terminal::session::{FACE_BYTES, Session};
 
 const WIDTH: usize = 48;
 
 const HEIGHT: usize = 24;
 
-const FACE_BYTES: usize = 1520;
 /// A frame, a ray far past two edges, one from far below, and a line that a new move cuts off.
 const RECORDING: &[u8] =
     b"\x1b:0;0m\x1b:47;0d\x1b:47;23d\x1b:0;23d\x1b:0;0d\x1b:9;3m\x1b:300;90d\x1b:-40;-700m\x1b:30;21d\x1b:5;\x1b:6;19m\x1b:6;15d";
 
-/// What fills a place in which no stroke waits.
-const BLANK: Stroke = Stroke {
-    key: Key::Byte { code: 0 },
-};
-
 fn number<T: Drop>(answer: Result<T, Refusal>) -> u8 {
-    answer.err().map_or(0, |refusal| refusal.number())
+    answer.err().map_or(0, u8::from)
 }
 
 /// Feeds bytes with a face and a line of its own, and answers how many were taken.
 fn take<P: Plane>(terminal: &mut Terminal, plane: &mut P, bytes: &[u8]) -> Result<usize, Refusal> {
     let face = [255u8; FACE_BYTES];
-    let mut places = [BLANK; 1];
-    let mut strokes = Queue::new(&mut places);
-    let mut line = Packets::new();
-    let delivery = feed(terminal, &face, plane, &mut line, &mut strokes, bytes)?;
-    Ok(delivery.taken())
+    let mut places = [Stroke::BLANK; 1];
+    let mut session = Session {
+        terminal,
+        face: &face,
+        plane,
+        line: &mut Packets::new(),
+        strokes: &mut Queue::new(&mut places),
+    };
+    let delivery = session.feed(bytes)?;
+    Ok(delivery.taken)
 }
 
 /// Feeds the recording in two deliveries, cut in the middle of a sequence, and prints the listing.
@@ -77,13 +75,13 @@ fn refuse_memory(rt: &HostRuntime) -> anyhow::Result<()> {
     let mut bytes = [0u8; 32];
     println!(rt;
         "sizes {} {}",
-        number(check_bytes(8, 16, 16)),
-        number(check_tiles(16, 20, 5))
+        number(check_memory::<u8>(8, 16, 16)),
+        number(check_memory::<u64>(16, 20, 5))
     )?;
     println!(rt;
         "memory {} {}",
-        number(check_bytes(16, 16, 31)),
-        number(check_tiles(16, 16, 5))
+        number(check_memory::<u8>(16, 16, 31)),
+        number(check_memory::<u64>(16, 16, 5))
     )?;
     let plane = Packed::new(&mut bytes, 16, 24);
     println!(rt; "no plane {} by {}", plane.width(), plane.height())?;

@@ -2,6 +2,7 @@
 use crate::fault::Fault;
 use crate::hexadecimal::word_of;
 use crate::ink::pixels_of;
+use line::shortage::Shortage;
 use plane::Plane;
 use printout::listing::listing;
 use refusal::Refusal;
@@ -14,11 +15,13 @@ pub(crate) fn print_delivery(
     answer: Result<Delivery, Refusal>,
 ) -> Result<(), Fault> {
     match answer {
-        Ok(Delivery::Whole { taken }) => println!(rt; "feed 0 taken {taken}")?,
-        Ok(Delivery::Stopped { taken, need, room }) => {
-            println!(rt; "feed 8 taken {taken} need {need} room {room}")?
-        }
-        Err(refusal) => println!(rt; "feed {}", refusal.number())?,
+        Ok(Delivery { taken, shortage }) => match shortage {
+            None => println!(rt; "feed 0 taken {taken}")?,
+            Some(Shortage { need, room }) => {
+                println!(rt; "feed 8 taken {taken} need {need} room {room}")?
+            }
+        },
+        Err(refusal) => println!(rt; "feed {}", u8::from(refusal))?,
     }
     Ok(())
 }
@@ -31,7 +34,7 @@ pub(crate) fn print_answer(
     match answer {
         Ok(()) => println!(rt; "{name} 0")?,
         Err(Refusal::Full { need, room }) => println!(rt; "{name} 8 need {need} room {room}")?,
-        Err(refusal) => println!(rt; "{name} {}", refusal.number())?,
+        Err(refusal) => println!(rt; "{name} {}", u8::from(refusal))?,
     }
     Ok(())
 }
@@ -48,7 +51,7 @@ pub(crate) fn print_listing<P: Plane>(
             println!(rt; "listing 0 {length}")?;
             rt.stdout().write_all(&text[0..length])?;
         }
-        Err(refusal) => println!(rt; "listing {}", refusal.number())?,
+        Err(refusal) => println!(rt; "listing {}", u8::from(refusal))?,
     }
     Ok(())
 }

@@ -12,13 +12,9 @@ use plane::packed::Packed;
 use plane::tiled::Tiled;
 use plane::turned::Turned;
 use queue::Queue;
-use refusal::Refusal;
-use runs::delivery::Delivery;
 use state::terminal::Terminal;
 use std::alloc::{AllocError, Global};
-use terminal::feed::feed;
-use terminal::key::key;
-use terminal::point::point;
+use terminal::session::Session;
 
 /// A terminal with all that a call on it takes but the plane.
 #[derive(Drop)]
@@ -36,39 +32,16 @@ pub struct Desk<'a, L> {
     pub sheet: Sheet,
 }
 
-impl<L: Line> Station<'_, L> {
-    fn feed<P: Plane>(&mut self, plane: &mut P, bytes: &[u8]) -> Result<Delivery, Refusal> {
-        feed(
-            &mut self.terminal,
-            &self.face,
+impl<'a, L: Line> Station<'a, L> {
+    /// The session with a plane.
+    fn session<'s, P: Plane>(&'s mut self, plane: &'s mut P) -> Session<'s, 'a, P, L> {
+        Session {
+            terminal: &mut self.terminal,
+            face: &self.face,
             plane,
-            &mut self.line,
-            &mut self.strokes,
-            bytes,
-        )
-    }
-
-    fn key<P: Plane>(&mut self, plane: &mut P, number: u8) -> Result<(), Refusal> {
-        key(
-            &mut self.terminal,
-            &self.face,
-            plane,
-            &mut self.line,
-            &mut self.strokes,
-            number,
-        )
-    }
-
-    fn point<P: Plane>(&mut self, plane: &mut P, x: usize, y: usize) -> Result<(), Refusal> {
-        point(
-            &mut self.terminal,
-            &self.face,
-            plane,
-            &mut self.line,
-            &mut self.strokes,
-            x,
-            y,
-        )
+            line: &mut self.line,
+            strokes: &mut self.strokes,
+        }
     }
 
     /// Makes a call and prints what it answered.
@@ -79,9 +52,9 @@ impl<L: Line> Station<'_, L> {
         call: &Call,
     ) -> Result<(), Fault> {
         match call {
-            Call::Feed { bytes } => print_delivery(rt, self.feed(plane, bytes)),
-            Call::Key { number } => print_answer(rt, "key", self.key(plane, *number)),
-            Call::Point { x, y } => print_answer(rt, "point", self.point(plane, *x, *y)),
+            Call::Feed { bytes } => print_delivery(rt, self.session(plane).feed(bytes)),
+            Call::Key { number } => print_answer(rt, "key", self.session(plane).key(*number)),
+            Call::Point { x, y } => print_answer(rt, "point", self.session(plane).point(*x, *y)),
             Call::Ink { seed } => {
                 put_ink(plane, *seed);
                 println!(rt; "ink")?;

@@ -2,8 +2,7 @@
 use crate::fault::Fault;
 use crate::hexadecimal::bytes_of;
 use std::alloc::{AllocError, Global};
-
-const FACE_BYTES: usize = 1520;
+use terminal::session::FACE_BYTES;
 
 /// The face of a new terminal: all 255.
 pub(crate) fn solid(heap: Global) -> Result<Vec<u8>, AllocError> {

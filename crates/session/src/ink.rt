@@ -35,7 +35,7 @@ fn ink_row<P: Plane>(plane: &mut P, y: usize, numbers: &mut Numbers) {
 
 fn clear_row<P: Plane>(plane: &mut P, y: usize) {
     let width = plane.width();
-    plane.fill_run(y, 0, width, false);
+    plane.fill_run(y, 0..width, false);
 }
 
 /// Gives every pixel: the low bytes of the numbers of the seed, or 0 where the seed is 0.

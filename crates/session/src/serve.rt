@@ -6,18 +6,12 @@ use crate::hexadecimal::word_of;
 use crate::peek::Peek;
 use crate::script::Script;
 use crate::sheet::{Shape, Sheet};
-use keyboard::key::Key;
 use keyboard::stroke::Stroke;
 use line::drain;
 use line::packets::Packets;
 use queue::Queue;
 use state::terminal::Terminal;
 use terminal::install::install;
-
-/// What fills places in which no stroke waits.
-const BLANK: Stroke = Stroke {
-    key: Key::Byte { code: 0 },
-};
 
 impl<L: Peek> Desk<'_, L> {
     fn print_drain(&mut self, rt: &HostRuntime, size: usize) -> Result<(), Fault> {
@@ -67,7 +61,7 @@ fn connect(
     plan: Plan,
 ) -> Result<Option<Plan>, Fault> {
     let heap = rt.alloc();
-    let mut places = vec![in heap; BLANK; plan.places]?;
+    let mut places = vec![in heap; Stroke::BLANK; plan.places]?;
     let strokes = Queue::new(&mut places);
     match plan.line {
         LineKind::Queue => {
@@ -96,7 +90,7 @@ fn begin(rt: &HostRuntime, script: &mut Script<'_>, plan: Plan) -> Result<Option
     match install(width, height, plan.terminator) {
         Ok(terminal) => connect(rt, script, terminal, plan),
         Err(refusal) => {
-            println!(rt; "install {}", refusal.number())?;
+            println!(rt; "install {}", u8::from(refusal))?;
             next_plan(script)
         }
     }

@@ -33,7 +33,7 @@ impl fmt::Display for Selected {
             ..
         } = self.0;
         let Point { x, y } = position;
-        let drawing = pen.drawing.number();
+        let drawing = u8::from(pen.drawing);
         write!(
             f,
             "sel={number} pos={x},{y} held=0 draw={drawing} text=3 rev=0 right=0 wrap=1"
@@ -54,7 +54,7 @@ impl fmt::Display for Modes<'_> {
         let keypad = Flag(terminal.modes.keys.keypad_application);
         let locked = Flag(terminal.locked);
         let Place { x, y } = terminal.pointer;
-        let gin = Flag(!matches!(terminal.gin, Gin::Off));
+        let gin = Flag(terminal.gin != Gin::Off);
         write!(
             f,
             "last={last} ckeys={cursor} mode20=0 keypad={keypad} locked={locked} pointer={x},{y}"
@@ -83,7 +83,7 @@ impl fmt::Display for Numbered {
             height,
         } = self.window.area;
         let Point { x, y } = self.window.position;
-        let drawing = self.window.pen.drawing.number();
+        let drawing = u8::from(self.window.pen.drawing);
         write!(
             f,
             "r{number}={left},{bottom},{width},{height}:{x},{y}:0:{drawing},3,0"
@@ -117,10 +117,9 @@ struct Strokes<'a, 'q>(&'a Queue<'q, Stroke>);
 
 impl fmt::Display for Strokes<'_, '_> {
     fn fmt<W: fmt::Write>(&self, f: &mut fmt::Formatter<W>) -> fmt::Result {
-        let strokes = (0..self.0.len()).filter_map(|i| self.0.get(i));
-        for (i, stroke) in strokes.enumerate() {
+        for (i, stroke) in self.0.iter().enumerate() {
             f.write_str(if i == 0 { "" } else { "," })?;
-            write!(f, "{}", stroke.number())?;
+            write!(f, "{}", u8::from(*stroke))?;
         }
         Ok(())
     }
@@ -142,7 +141,7 @@ impl<L: Peek> fmt::Display for Waiting<'_, L> {
 /// The state.
 impl<L: Peek> fmt::Display for Station<'_, L> {
     fn fmt<W: fmt::Write>(&self, f: &mut fmt::Formatter<W>) -> fmt::Result {
-        let emulation = self.terminal.emulation.number();
+        let emulation = u8::from(self.terminal.emulation);
         let selected = Selected(self.terminal.window);
         let modes = Modes(&self.terminal);
         let regions = Regions(&self.terminal);
