@@ -12,6 +12,8 @@ use Rattle.state.specs.Event.{byte}
 use Rattle.state.specs.Reading.{read}
 use Rattle.state.specs.Reply.{reply_of}
 use Rattle.keyboard.specs.declared.stroke.Stroke.{Stroke}
+use Rattle.terminal.specs.declared.session.Session.{Session}
+use Rattle.terminal.specs.Session.{SameLoans}
 use Rattle.terminal.specs.Work.{Holds, Short}
 
 -- a byte whose reply found no room, where nothing changed
@@ -38,3 +40,7 @@ has_place (Gin g) n places free = tt
 has_place (Key (Hold k)) n places free = free
 has_place (Key (KeyAction.Send k)) n places free = tt
 has_place (Aim a) n places free = tt
+
+-- one call after another lends what the first did
+pub still : {P L : Type 0} {s t u : Session P L} → SameLoans s t → SameLoans t u → SameLoans s u
+still a b = record { terminal = b.terminal ∙ a.terminal; plane = b.plane ∙ a.plane; line = b.line ∙ a.line; strokes = b.strokes ∙ a.strokes }

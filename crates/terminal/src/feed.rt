@@ -1,7 +1,7 @@
 //! A delivery of host bytes.
 ghost use Rattle.std.specs.Prelude.{◌≡◌, OnErr};
 ghost use Rattle.runs.specs.Calls.{Fed};
-ghost use Rattle.terminal.specs.Session.{seen};
+ghost use Rattle.terminal.specs.Session.{seen, SameLoans};
 
 use crate::session::Session;
 use line::Line;
@@ -13,6 +13,7 @@ impl<P: Plane, L: Line> Session<'_, '_, P, L> {
     /// Takes host bytes one by one, until one whose reply finds no room in the line.
     pub fn feed(&mut self, bytes: &[u8]) -> Result<Delivery, Refusal>
         ensures fed { Fed (seen P.picture L.carried self.old) bytes.now result (seen P.picture L.carried self.new) }
+        ensures lent { SameLoans self.old self.new }
         ensures refused { OnErr result (self.new ≡ self.old) }
     {
         self.admit()?;

@@ -3,7 +3,7 @@ ghost use Rattle.std.specs.Prelude.{◌≡◌, length, OnErr};
 ghost use Rattle.std.specs.Result.{result_err};
 ghost use Rattle.queue.specs.Waiting.{waiting, places};
 ghost use Rattle.runs.specs.Calls.{Keyed, own_refusal};
-ghost use Rattle.terminal.specs.Session.{seen};
+ghost use Rattle.terminal.specs.Session.{seen, SameLoans};
 
 use crate::session::Session;
 use keyboard::stroke::Stroke;
@@ -30,6 +30,7 @@ impl<P: Plane, L: Line> Session<'_, '_, P, L> {
     /// Strikes the key of a number: its bytes go to the host, or it waits where the keyboard is locked.
     pub fn key(&mut self, number: u8) -> Result<(), Refusal>
         ensures keyed { Keyed (seen P.picture L.carried self.old) number result (seen P.picture L.carried self.new) }
+        ensures lent { SameLoans self.old self.new }
         ensures refused { OnErr result (self.new ≡ self.old) }
     {
         self.admit()?;

@@ -1,7 +1,7 @@
 //! The pointer's place.
 ghost use Rattle.std.specs.Prelude.{◌≡◌};
 ghost use Rattle.runs.specs.Calls.{Pointed};
-ghost use Rattle.terminal.specs.Session.{seen};
+ghost use Rattle.terminal.specs.Session.{seen, SameLoans};
 
 use crate::session::Session;
 use line::Line;
@@ -14,6 +14,7 @@ impl<P: Plane, L: Line> Session<'_, '_, P, L> {
     /// Sets the pointer to a place of the plane. That needs no room, since it replies nothing.
     pub fn point(&mut self, x: usize, y: usize) -> Result<(), Refusal>
         ensures pointed { Pointed (seen P.picture L.carried self.old) x y result (seen P.picture L.carried self.new) }
+        ensures lent { SameLoans self.old self.new }
         ensures plane { self.new.plane ≡ self.old.plane }
         ensures line { self.new.line ≡ self.old.line }
         ensures strokes { self.new.strokes ≡ self.old.strokes }

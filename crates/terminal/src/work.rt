@@ -2,7 +2,7 @@
 ghost use Rattle.std.specs.Prelude.{◌≡◌, ◌≤◌, length, OnErr};
 ghost use Rattle.queue.specs.Waiting.{waiting, places};
 ghost use Rattle.state.specs.Step.{strokes_after};
-ghost use Rattle.terminal.specs.Session.{seen};
+ghost use Rattle.terminal.specs.Session.{seen, SameLoans};
 ghost use Rattle.terminal.specs.Work.{Worked, Holds};
 
 use crate::reply::Reply;
@@ -34,6 +34,7 @@ impl<P: Plane, L: Line> Session<'_, '_, P, L> {
         requires few { length (waiting self.old.strokes.now) ≤ 16 }
         requires place { Holds reading.action (length (waiting self.old.strokes.now)) (places self.old.strokes.now) }
         ensures worked { Worked (seen P.picture L.carried self.old) reading result (seen P.picture L.carried self.new) }
+        ensures lent { SameLoans self.old self.new }
         ensures refused { OnErr result (self.new ≡ self.old) }
     {
         let reply = Reply::of(self.terminal, self.strokes, reading.action);

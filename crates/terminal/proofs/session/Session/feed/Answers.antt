@@ -1,4 +1,4 @@
-use Rattle.std.proofs.Common.{get_or, take, ap, sym, ◌∙◌, subst, arith}
+use Rattle.std.proofs.Common.{get_or, take, ap, sym, refl, ◌∙◌, subst, arith}
 use Rattle.std.proofs.lemmas.List.{take_all}
 use Rattle.std.specs.Result.{result_err}
 use Rattle.queue.proofs.RingLaws.{waiting_fits}
@@ -8,14 +8,14 @@ use Rattle.runs.proofs.Sizes.{admitted}
 use Rattle.runs.proofs.Steps.{so_far_none, so_far_more, byte_never_holds}
 use Rattle.state.specs.declared.reading.Reading.{Reading}
 use Rattle.terminal.specs.Session.{seen}
-use Rattle.terminal.proofs.WorkLaws.{byte_exceeds, needs_no_place}
+use Rattle.terminal.proofs.WorkLaws.{byte_exceeds, needs_no_place, still}
 use Rattle.terminal.proofs.session.Session.feed.Goals as goal
 
 pub loop-taken-init : goal.loop-taken-init
 loop-taken-init g c =
     let s = seen g.P.Plane.picture g.L.Line.carried c.args.self.now in
     let admits = sym c.admit.ensures ∙ ap result_err (c.in_ok-admit.was {u = tt}) in
-    ((admitted s admits).places, so_far_none s c.args.bytes.now admits)
+    ((admitted s admits).places, so_far_none s c.args.bytes.now admits, record { terminal = refl; plane = refl; line = refl; strokes = refl })
 
 pub work-requires : goal.work-requires
 work-requires g c =
@@ -34,7 +34,7 @@ loop-taken-preserved g c =
     let later = set c.work.new.self in
     let done = (c.in_default.ensures {u = tt}).worked in
     let read = subst (λ (r : Reading). Does before r later) c.read-reading.ensures done in
-    (omega (arith, done.places, l.invariant.0), so_far_more (set c.args.self.now) before later c.args.bytes.now l.taken c.loop-taken-test.true l.invariant.1 read)
+    (omega (arith, done.places, l.invariant.0), so_far_more (set c.args.self.now) before later c.args.bytes.now l.taken c.loop-taken-test.true l.invariant.1 read, still l.invariant.2 c.work.ensures.lent)
 
 pub returns-in-Err : goal.returns-in-Err
 returns-in-Err g c =
@@ -45,6 +45,7 @@ returns-in-Err g c =
     let none = (c.in-Err.ensures {u = tt}).worked in
     record {
       fed = (admits, (c.loop-taken-test.true, subst (λ (t : Set). Works (set c.args.self.now) (take l.taken bytes) t) (sym none.1) l.invariant.1.works, byte_exceeds (set l.self) (set c.work.new.self) (get_or bytes l.taken 0) c.read-reading.result c.in-Err.shortage c.read-reading.ensures none.0 none.1));
+      lent = still l.invariant.2 c.work.ensures.lent;
       refused = tt;
     }
 
@@ -57,5 +58,6 @@ returns g c =
     let all = take_all l.taken bytes (omega arith) in
     record {
       fed = (admits, (omega arith, subst (λ bs. Works (set c.args.self.now) bs (set l.self)) all l.invariant.1.works));
+      lent = l.invariant.2;
       refused = tt;
     }
