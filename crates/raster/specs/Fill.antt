@@ -1,5 +1,5 @@
 -- Source 1 joined to many pixels.
-use Rattle.std.specs.Prelude.{◌≡◌, true, cond, ◌&&◌}
+use Rattle.std.specs.Prelude.{◌≡◌, true, if◌then◌else◌, ◌&&◌}
 use Rattle.plane.specs.Picture.{Picture, has, with_bits}
 use Rattle.raster.specs.declared.operation.Operation.{Operation}
 use Rattle.raster.specs.declared.operation.Operation.TheVariants.{Clear as clear_operation}
@@ -18,11 +18,11 @@ all_of a = record { start = a.low; count = a.size }
 
 -- the places of the columns c and the rows w
 abbrev pub covered : Operation → Places → Places → Picture → Picture
-covered o c w p = with_bits p (λ u v. cond (has p u v && (among c.start c.count u && among w.start w.count v)) (applied o true (p.at u v)) (p.at u v))
+covered o c w p = with_bits p (λ u v. if has p u v && (among c.start c.count u && among w.start w.count v) then applied o true (p.at u v) else p.at u v)
 
 -- the pixels of the rectangle t that lie in the region
 abbrev pub filled : Region → Operation → Rectangle → Picture → Picture
-filled r o t = painted r (λ a b d. cond (holds t a b) (applied o true d) d)
+filled r o t = painted r (λ a b d. if holds t a b then applied o true d else d)
 
 -- every pixel of the region
 abbrev pub flooded : Region → Operation → Picture → Picture

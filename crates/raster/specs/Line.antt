@@ -1,5 +1,5 @@
 -- The points of a line.
-use Rattle.std.specs.Prelude.{ℕ, zero, suc, ◌+◌, ◌*◌, ◌/◌, max, Bool, true, cond, ℤ, pos, ◌+ℤ◌, ◌-ℤ◌, int_le, unsigned_abs}
+use Rattle.std.specs.Prelude.{ℕ, zero, suc, ◌+◌, ◌*◌, ◌/◌, max, Bool, true, if◌then◌else◌, ℤ, pos, ◌+ℤ◌, ◌-ℤ◌, int_le, unsigned_abs}
 use Rattle.plane.specs.Picture.{Picture}
 use Rattle.raster.specs.declared.operation.Operation.{Operation}
 use Rattle.raster.specs.declared.region.Region.{Region}
@@ -10,7 +10,7 @@ use Rattle.raster.specs.Join.{joined}
 abbrev pub toward : ℤ → ℤ → ℕ → ℕ → ℤ
 toward a b n i =
     let offset : ℕ = (2 * i * unsigned_abs (a -ℤ b) + n) / (2 * n) in
-    cond (int_le a b) (a +ℤ pos offset) (a -ℤ pos offset)
+    if int_le a b then a +ℤ pos offset else a -ℤ pos offset
 
 -- the larger of the two distances
 abbrev pub steps : Point → Point → ℕ
@@ -27,4 +27,4 @@ dotted r o at (suc i) p = joined r o true (at i) (dotted r o at i p)
 
 -- the points 0 to n of the line from f to t, or without the last
 abbrev pub lined : Region → Operation → Point → Point → Bool → Picture → Picture
-lined r o f t last = dotted r o (point f t) (cond last (steps f t + 1) (steps f t))
+lined r o f t last = dotted r o (point f t) (if last then steps f t + 1 else steps f t)

@@ -1,5 +1,5 @@
 -- The sixteen raster operations: each is the number of its truth table.
-use Rattle.std.specs.Prelude.{ℕ, ◌+◌, Bool, cond}
+use Rattle.std.specs.Prelude.{ℕ, ◌+◌, Bool, if◌then◌else◌}
 use Rattle.plane.specs.Bits.{bit}
 use Rattle.raster.specs.declared.operation.Operation.{Operation}
 use Rattle.raster.specs.declared.operation.Operation.TheVariants.{Clear, And, AndReverse, Copy, AndInverted, Keep, Xor, Or, Nor, Equivalent, Invert, OrReverse, CopyInverted, OrInverted, Nand, Set}
@@ -24,7 +24,7 @@ number_of Set = 15
 
 -- operation k maps source s and destination d to bit 2 * (1 - s) + (1 - d) of k
 abbrev pub combined : ℕ → Bool → Bool → Bool
-combined k s d = bit k (cond s 0 2 + cond d 0 1)
+combined k s d = bit k ((if s then 0 else 2) + (if d then 0 else 1))
 
 abbrev pub applied : Operation → Bool → Bool → Bool
 applied o = combined (number_of o)

@@ -1,5 +1,5 @@
 -- Places of a plane, and coordinates counted from the lower left of a region in it.
-use Rattle.std.specs.Prelude.{ℕ, ◌+◌, Bool, false, cond, ◌&&◌, ℤ, pos, ◌-ℤ◌, Some, None, Option, ◌==◌, int_le, nat_le, nat_lt}
+use Rattle.std.specs.Prelude.{ℕ, ◌+◌, Bool, false, if◌then◌else◌, ◌&&◌, ℤ, pos, ◌-ℤ◌, Some, None, Option, ◌==◌, int_le, nat_le, nat_lt}
 use Rattle.plane.specs.Picture.{Picture, has, with_bits}
 use Rattle.raster.specs.declared.axis.Axis.{Axis}
 use Rattle.raster.specs.declared.region.Region.{Region}
@@ -33,4 +33,4 @@ met None u = false
 
 -- each pixel of the region by itself: f is handed its coordinates and its bit
 abbrev pub painted : Region → (ℤ → ℤ → Bool → Bool) → Picture → Picture
-painted r f p = with_bits p (λ u v. cond (has p u v && inside r u v) (f (position r.left u) (position r.bottom v) (p.at u v)) (p.at u v))
+painted r f p = with_bits p (λ u v. if has p u v && inside r u v then f (position r.left u) (position r.bottom v) (p.at u v) else p.at u v)

@@ -1,5 +1,5 @@
 -- The calls as relations between what stood before and what stands after. A line's room is bounded, never given.
-use Rattle.std.specs.Prelude.{◌≡◌, ℕ, ◌<◌, Bool, true, false, cond, not, ◌&&◌, ◌||◌, ◌⊎◌, List, [], ◌∷◌, map, length, take, Some, None, Ok, Err, Option, Result, nat_le, nat_lt, slice_index, refl}
+use Rattle.std.specs.Prelude.{◌≡◌, ℕ, ◌<◌, Bool, true, false, if◌then◌else◌, not, ◌&&◌, ◌||◌, ◌⊎◌, List, [], ◌∷◌, map, length, take, Some, None, Ok, Err, Option, Result, nat_le, nat_lt, slice_index, refl}
 use Rattle.keyboard.specs.declared.stroke.Stroke.{Stroke}
 use Rattle.keyboard.specs.Stroke.{numbered}
 use Rattle.line.specs.declared.shortage.Shortage.{Shortage}
@@ -65,8 +65,9 @@ first_of None o = o
 -- no key has a number above 149, in graphics input above 127; where a stroke would wait, every place may be taken
 abbrev pub own_refusal : Terminal → ℕ → ℕ → ℕ → Option Refusal
 own_refusal t n waits places =
-    cond (nat_lt 149 n || (in_gin t.gin && nat_lt 127 n)) (because Key 9 refl)
-    (cond ((t.locked && not (in_gin t.gin)) && nat_le places waits) (because QueueFull 10 refl) None)
+    if nat_lt 149 n || (in_gin t.gin && nat_lt 127 n)
+    then because Key 9 refl
+    else (if (t.locked && not (in_gin t.gin)) && nat_le places waits then because QueueFull 10 refl else None)
 
 abbrev pub key_refusal : Set → ℕ → Option Refusal
 key_refusal s n = first_of (refusal s) (own_refusal s.terminal n (length s.strokes) s.places)
@@ -97,7 +98,7 @@ Keyed s n (Ok _) t = (key_refusal s n ≡ None) × OfKey (numbered n) (λ k. Act
 
 -- a place outside the plane
 abbrev pub point_refusal : Set → ℕ → ℕ → Option Refusal
-point_refusal s x y = first_of (refusal s) (cond (nat_lt x s.picture.wide && nat_lt y s.picture.high) None (because Outside 11 refl))
+point_refusal s x y = first_of (refusal s) (if nat_lt x s.picture.wide && nat_lt y s.picture.high then None else because Outside 11 refl)
 
 abbrev pub place : ℕ → ℕ → Place
 place x y = record { x = x; y = y }

@@ -1,5 +1,5 @@
 -- The set of terminal, face, plane, strokes and line that the calls work on, and when feed, key and point refuse it.
-use Rattle.std.specs.Prelude.{ℕ, cond, ◌&&◌, List, length, None, Option, ◌==◌, nat_le, refl}
+use Rattle.std.specs.Prelude.{ℕ, if◌then◌else◌, ◌&&◌, List, length, None, Option, ◌==◌, nat_le, refl}
 use Rattle.keyboard.specs.declared.stroke.Stroke.{Stroke}
 use Rattle.line.specs.Wire.{Wire}
 use Rattle.plane.specs.Picture.{Picture}
@@ -28,10 +28,10 @@ view s = sight s.terminal s.picture s.strokes
 -- the size first, then the line's capacity, the face's length, and the places for strokes
 abbrev pub refusal : Set → Option Refusal
 refusal s =
-    cond (same_size s.terminal s.picture)
-    (cond (nat_le 64 s.line.capacity)
-    (cond (length s.face == 1520)
-    (cond (nat_le 1 s.places && nat_le s.places 16) None (because Strokes 7 refl))
-    (because Face 6 refl))
-    (because Capacity 5 refl))
-    (because PlaneSize 4 refl)
+    if same_size s.terminal s.picture
+    then (if nat_le 64 s.line.capacity
+    then (if length s.face == 1520
+    then (if nat_le 1 s.places && nat_le s.places 16 then None else because Strokes 7 refl)
+    else because Face 6 refl)
+    else because Capacity 5 refl)
+    else because PlaneSize 4 refl

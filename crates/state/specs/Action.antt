@@ -1,5 +1,5 @@
 -- What a parsed byte calls for.
-use Rattle.std.specs.Prelude.{ℕ, cond, List, ℤ, pos, ◌==◌, slice_index_or}
+use Rattle.std.specs.Prelude.{ℕ, if◌then◌else◌, List, ℤ, pos, ◌==◌, slice_index_or}
 use Rattle.parser.specs.declared.machine.Dispatch.{Dispatch}
 use Rattle.parser.specs.declared.machine.Dispatch.TheVariants.{Print, Execute, Intermediate, Address, Sequence}
 use Rattle.parser.specs.Parameters.{is_colon}
@@ -15,15 +15,15 @@ first_two values = record { x = slice_index_or values 0 (pos 0); y = slice_index
 
 -- after ESC : the bytes m and d move and draw to the point of the first two parameters
 abbrev pub drawing_of : List ℤ → ℕ → Action
-drawing_of values last = cond (last == 109) (Draw (Move (first_two values))) (cond (last == 100) (Draw (Line (first_two values))) Nothing)
+drawing_of values last = if last == 109 then Draw (Move (first_two values)) else (if last == 100 then Draw (Line (first_two values)) else Nothing)
 
 -- ESC ENQ reports, ESC SUB begins graphics input, ESC c makes all new
 abbrev pub escaped : ℕ → Action
-escaped last = cond (last == 5) (Control Report) (cond (last == 26) (Gin Enter) (cond (last == 99) (Control Reset) Nothing))
+escaped last = if last == 5 then Control Report else (if last == 26 then Gin Enter else (if last == 99 then Control Reset else Nothing))
 
 -- ETX is acknowledged
 abbrev pub executed : ℕ → Action
-executed b = cond (b == 3) (Control Acknowledge) Nothing
+executed b = if b == 3 then Control Acknowledge else Nothing
 
 -- what is not listed does nothing
 abbrev pub called_for : Dispatch → Action
@@ -33,4 +33,4 @@ called_for (Execute byte) = executed byte
 called_for (Dispatch.Escape last) = escaped last
 called_for (Intermediate first last) = Nothing
 called_for (Address row column) = Nothing
-called_for (Sequence introducer values last) = cond (is_colon introducer) (drawing_of values last) Nothing
+called_for (Sequence introducer values last) = if is_colon introducer then drawing_of values last else Nothing

@@ -1,5 +1,5 @@
 -- What a host byte, a stroke or a place calls for, and the parser after it. Only here are bytes told apart.
-use Rattle.std.specs.Prelude.{ℕ, Bool, true, false, cond, ◌&&◌, ◌||◌, ◌==◌, nat_le}
+use Rattle.std.specs.Prelude.{ℕ, Bool, true, false, if◌then◌else◌, ◌&&◌, ◌||◌, ◌==◌, nat_le}
 use Rattle.keyboard.specs.declared.stroke.Stroke.{Stroke}
 use Rattle.parser.specs.Machine.{parsed}
 use Rattle.state.specs.declared.action.Action.{Action}
@@ -17,7 +17,7 @@ use Rattle.state.specs.Action.{called_for}
 
 -- in graphics input: CR or US ends it, ESC ENQ reports, all else is lost, a begun ESC too
 abbrev pub in_gin : Bool → ℕ → GinAction
-in_gin begun b = cond (b == 27) Begin (cond (b == 13 || b == 31) Leave (cond (b == 5 && begun) Report Lose))
+in_gin begun b = if b == 27 then Begin else (if b == 13 || b == 31 then Leave else (if b == 5 && begun then Report else Lose))
 
 -- what comes after the bytes that pass by
 abbrev pub further : Input → Terminal → ℕ → Reading
@@ -28,14 +28,15 @@ further AfterEscape t b = record { parser = t.parser; action = Gin (in_gin true 
 -- NUL, 128 to 255, DC1 and DC3 pass by a sequence and graphics input
 abbrev pub read : Terminal → ℕ → Reading
 read t b =
-    cond (b == 0 || nat_le 128 b) (record { parser = t.parser; action = Nothing })
-    (cond (b == 17) (record { parser = t.parser; action = Control Unlock })
-    (cond (b == 19) (record { parser = t.parser; action = Control Lock })
-    (further t.gin t b)))
+    if b == 0 || nat_le 128 b
+    then record { parser = t.parser; action = Nothing }
+    else (if b == 17
+    then record { parser = t.parser; action = Control Unlock }
+    else (if b == 19 then record { parser = t.parser; action = Control Lock } else further t.gin t b))
 
 -- a stroke waits where the keyboard is locked, but never in graphics input
 abbrev pub stroke_action : Input → Bool → Stroke → Action
-stroke_action Off locked k = cond locked (Key (Hold k)) (Key (KeyAction.Send k))
+stroke_action Off locked k = if locked then Key (Hold k) else Key (KeyAction.Send k)
 stroke_action On locked k = Gin (Send k)
 stroke_action AfterEscape locked k = Gin (Send k)
 
