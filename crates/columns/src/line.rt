@@ -16,6 +16,7 @@ pub struct Line {
 
 impl Line {
     /// Writes the line from `at` on and answers where it ends; refuses where the buffer ends before.
+    // At a place of a buffer, and no Vec that grows: a library of this project has no heap.
     pub fn write(&self, buffer: &mut [u8], at: usize) -> Result<usize, Refusal>
         ensures answer { result ≡ answer (length buffer.old) at }
         ensures kept { length buffer.old < at + 25 → buffer.new ≡ buffer.old }

@@ -7,6 +7,7 @@ use itoa::Buffer;
 /// At most five digits and a sign, so six columns hold it.
 #[derive(Clone, Copy, PartialEq, Eq, Debug)]
 pub struct Number {
+    // A sign beside its magnitude: an i32 would want a bound, so that its text has six columns.
     negative: bool,
     magnitude: u16,
 }

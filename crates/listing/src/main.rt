@@ -51,6 +51,7 @@ impl Player<'_> {
     /// Feeds all of the bytes. Nobody reads the replies, so they are drained wherever they fill the line.
     fn feed_all(&mut self, bytes: &[u8]) -> Result<usize, Refusal> {
         let mut rest = bytes;
+        // Counted, since no contract says that a drained line lets the next byte through.
         for _ in 0..bytes.len() {
             let delivery = self.feed(rest)?;
             rest = rest.get(delivery.taken..).unwrap_or(&[]);

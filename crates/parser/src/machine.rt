@@ -29,6 +29,7 @@ pub enum State {
 /// What a byte calls for, once it is parsed.
 #[derive(Clone, Copy, PartialEq, Eq, Debug)]
 pub enum Dispatch {
+    // A case and no Option around the others: all are told apart in one match.
     Nothing,
     /// A byte 32 to 126 outside a sequence.
     Print {

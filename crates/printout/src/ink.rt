@@ -44,6 +44,7 @@ fn is_set<P: Plane>(plane: &P, x: u16, y: u16) -> bool
 pub(crate) fn ink_of_row<P: Plane>(plane: &P, width: u16, y: u16) -> Option<Ink>
     ensures { result ≡ inked (row (P.picture plane.now) y) width }
 {
+    // A loop and no fold: that a count fits is known by its invariant alone.
     let mut ink = None;
     for x in 0..width {
         if is_set(plane, x, y) {

@@ -58,6 +58,7 @@ impl From<Refusal> for u8 {
 }
 
 impl Refusal {
+    // Texts in a match: a derived Display would repeat the numbers, which `u8::from` has.
     fn reason(&self) -> &'static str {
         match self {
             Refusal::Size => "a side is no multiple of 8 from 16 to 1,024",

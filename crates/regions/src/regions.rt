@@ -53,6 +53,8 @@ impl Regions {
         };
     }
 
+    // One statement each, so that a common function would be no shorter.
+
     /// Sets the operation that joins lines in the selected region.
     pub fn draw_by(&mut self, operation: Operation)
         ensures { self.new ≡ drawing_by operation self.old }

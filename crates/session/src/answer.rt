@@ -26,6 +26,7 @@ pub(crate) fn print_delivery(
     Ok(())
 }
 
+// Beside `print_delivery`: a delivery tells what it took, in other words.
 pub(crate) fn print_answer(
     rt: &HostRuntime,
     name: &str,

@@ -89,6 +89,7 @@ impl<'a, L: Drop> Desk<'a, L> {
 
 impl<L: Line> Desk<'_, L> {
     /// Makes a call on the plane, of whatever make it is.
+    // By cases: the planes have four types, and no closure is generic over them.
     pub(crate) fn call(&mut self, rt: &HostRuntime, call: &Call) -> Result<(), Fault> {
         let width = self.sheet.width;
         let height = self.sheet.height;

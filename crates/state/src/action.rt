@@ -54,6 +54,7 @@ pub enum KeyAction {
 /// What is to be done, by families.
 #[derive(Clone, Copy)]
 pub enum Action {
+    // A case and no Option around the others: all are told apart in one match.
     Nothing,
     Control(Control),
     Draw(Drawing),

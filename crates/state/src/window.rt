@@ -1,4 +1,5 @@
 //! A region with what drawing in it needs.
+// Not the windows and pens of crate `regions`: their sizes ask more of whoever makes a terminal, and no text is drawn yet.
 use raster::operation::Operation;
 use raster::region::{Point, Region};
 
