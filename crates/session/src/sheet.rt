@@ -38,10 +38,7 @@ pub struct Shape {
 impl Shape {
     /// How many pixels it has, none where the size is no plane's.
     fn pixels(&self) -> usize {
-        match check_size(self.width, self.height) {
-            Ok(()) => self.width.saturating_mul(self.height),
-            Err(_) => 0,
-        }
+        check_size(self.width, self.height).map_or(0, |()| self.width.saturating_mul(self.height))
     }
 }
 
