@@ -43,4 +43,4 @@ has_place (Aim a) n places free = tt
 
 -- one call after another lends what the first did
 pub still : {P L : Type 0} {s t u : Session P L} → SameLoans s t → SameLoans t u → SameLoans s u
-still a b = record { terminal = b.terminal ∙ a.terminal; plane = b.plane ∙ a.plane; line = b.line ∙ a.line; strokes = b.strokes ∙ a.strokes }
+still a b = record { terminal = b.terminal ∙ a.terminal; face = b.face ∙ a.face; plane = b.plane ∙ a.plane; line = b.line ∙ a.line; strokes = b.strokes ∙ a.strokes }

@@ -10,9 +10,10 @@ use Rattle.terminal.specs.declared.session.Session.{Session}
 abbrev pub seen : {P L : Type 0} → (P → Picture) → (L → Wire) → Session P L → Set
 seen shows carries s = set_of s.terminal.now s.face.now (shows s.plane.now) (waiting s.strokes.now) (places s.strokes.now) (carries s.line.now)
 
--- the two lend the same places: no call exchanges the terminal, the plane, the line or the queue for another
+-- the two lend the same: no call exchanges the terminal, the face, the plane, the line or the queue for another
 pub record SameLoans {P L : Type 0} (s t : Session P L) : Type 0 where
   pub terminal : t.terminal.ghost_name ≡ s.terminal.ghost_name
+  pub face : t.face ≡ s.face
   pub plane : t.plane.ghost_name ≡ s.plane.ghost_name
   pub line : t.line.ghost_name ≡ s.line.ghost_name
   pub strokes : t.strokes.ghost_name ≡ s.strokes.ghost_name

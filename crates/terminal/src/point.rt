@@ -1,5 +1,5 @@
 //! The pointer's place.
-ghost use Rattle.std.specs.Prelude.{◌≡◌};
+ghost use Rattle.std.specs.Prelude.{◌≡◌, OnErr};
 ghost use Rattle.runs.specs.Calls.{Pointed};
 ghost use Rattle.terminal.specs.Session.{seen, SameLoans};
 
@@ -15,6 +15,7 @@ impl<P: Plane, L: Line> Session<'_, '_, P, L> {
     pub fn point(&mut self, x: usize, y: usize) -> Result<(), Refusal>
         ensures pointed { Pointed (seen P.picture L.carried self.old) x y result (seen P.picture L.carried self.new) }
         ensures lent { SameLoans self.old self.new }
+        ensures refused { OnErr result (self.new ≡ self.old) }
         ensures plane { self.new.plane ≡ self.old.plane }
         ensures line { self.new.line ≡ self.old.line }
         ensures strokes { self.new.strokes ≡ self.old.strokes }

@@ -15,7 +15,7 @@ pub loop-taken-init : goal.loop-taken-init
 loop-taken-init g c =
     let s = seen g.P.Plane.picture g.L.Line.carried c.args.self.now in
     let admits = sym c.admit.ensures ∙ ap result_err (c.in_ok-admit.was {u = tt}) in
-    ((admitted s admits).places, so_far_none s c.args.bytes.now admits, record { terminal = refl; plane = refl; line = refl; strokes = refl })
+    ((admitted s admits).places, so_far_none s c.args.bytes.now admits, record { terminal = refl; face = refl; plane = refl; line = refl; strokes = refl })
 
 pub work-requires : goal.work-requires
 work-requires g c =
