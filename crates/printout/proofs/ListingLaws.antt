@@ -1,5 +1,5 @@
 -- The text of a listing, row by row, and how it comes into a buffer.
-use Rattle.std.proofs.Common.{◌≡◌, ℕ, zero, suc, ◌+◌, ◌-◌, ◌*◌, ◌<◌, ◌≤◌, true, false, cond, eqb, ltb, leb, List, [], ◌++◌, length, take, drop, Some, None, Ok, Result, sym, refl, ap, ◌∙◌, ap₂, inl, inr, append_assoc, arith, length-append, take-append-drop, length-take-le, drop-drop}
+use Rattle.std.proofs.Common.{◌≡◌, ℕ, zero, suc, ◌+◌, ◌-◌, ◌*◌, ◌<◌, ◌≤◌, true, false, cond, ltb, leb, List, [], ◌++◌, length, take, drop, Some, None, Ok, Result, sym, refl, ap, ◌∙◌, ap₂, inl, inr, append_assoc, arith, length-append, take-append-drop, length-take-le, drop-drop}
 use Rattle.std.proofs.lemmas.Bool.{cases_eq, eq-eqb, ne_eqb, cond-true, cond-false, lt-ltb, le-ltb, le-leb, and_from, and_left, and_right}
 use Rattle.std.specs.Result.{result_unwrap_or}
 use Rattle.refusal.specs.declared.Refusal.{Refusal}

@@ -1,4 +1,4 @@
-use Rattle.std.proofs.Common.{◌≡◌, ◌≤◌}
+use Rattle.std.proofs.Common.{◌≤◌}
 use Rattle.queue.specs.Waiting.{places}
 use Rattle.runs.proofs.Steps.{SoFar}
 use Rattle.terminal.specs.Session.{seen, SameLoans}
