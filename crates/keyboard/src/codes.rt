@@ -1,5 +1,5 @@
 //! The bytes that a stroke sends.
-ghost use Rattle.std.specs.Prelude.{◌≡◌, ◌≤◌, [], ◌∷◌};
+ghost use Rattle.std.specs.Prelude.{◌≡◌, ◌≤◌, [], ◌∷◌, length};
 ghost use Rattle.parser.specs.declared.emulation.Emulation.TheVariants.{Vt52};
 ghost use Rattle.keyboard.specs.Codes.{codes_of, Short};
 ghost use Rattle.keyboard.specs.Stroke.{stroke_of};
@@ -17,28 +17,14 @@ const ESC: u8 = 27;
 /// One to three bytes, in the order in which they are sent.
 pub type Codes = ArrayVec<u8, 3>;
 
-fn one(byte: u8) -> Codes
-    ensures { result.items ≡ byte ∷ [] }
+// These bytes.
+fn sent(bytes: &[u8]) -> Codes
+    requires { length bytes.now ≤ 3 }
+    ensures { result.items ≡ bytes.now }
 {
     let mut codes = Codes::new();
-    codes.push(byte);
+    codes.try_extend_from_slice(bytes).unwrap();
     codes
-}
-
-/// ESC and the letter.
-fn two(letter: u8) -> Codes
-    ensures { result.items ≡ 27 ∷ letter ∷ [] }
-{
-    let mut codes = one(ESC);
-    codes.push(letter);
-    codes
-}
-
-/// ESC, a mark and the letter.
-fn three(mark: u8, letter: u8) -> Codes
-    ensures { result.items ≡ 27 ∷ mark ∷ letter ∷ [] }
-{
-    Codes::from([ESC, mark, letter])
 }
 
 impl Stroke {
@@ -50,15 +36,15 @@ impl Stroke {
     {
         let vt52 = emulation == Emulation::Vt52;
         match self.key {
-            Key::Byte { code } => one(code % 128),
-            Key::Arrow { direction } if vt52 => two(direction.letter()),
-            Key::Arrow { direction } if modes.cursor_keys => three(b'O', direction.letter()),
-            Key::Arrow { direction } => three(b'[', direction.letter()),
-            Key::Keypad { key } if !modes.keypad_application => one(key.engraved()),
-            Key::Keypad { key } if vt52 => three(b'?', key.letter()),
-            Key::Keypad { key } => three(b'O', key.letter()),
-            Key::Function { key } if vt52 => two(key.letter()),
-            Key::Function { key } => three(b'O', key.letter()),
+            Key::Byte { code } => sent(&[code % 128]),
+            Key::Arrow { direction } if vt52 => sent(&[ESC, direction.letter()]),
+            Key::Arrow { direction } if modes.cursor_keys => sent(&[ESC, b'O', direction.letter()]),
+            Key::Arrow { direction } => sent(&[ESC, b'[', direction.letter()]),
+            Key::Keypad { key } if !modes.keypad_application => sent(&[key.engraved()]),
+            Key::Keypad { key } if vt52 => sent(&[ESC, b'?', key.letter()]),
+            Key::Keypad { key } => sent(&[ESC, b'O', key.letter()]),
+            Key::Function { key } if vt52 => sent(&[ESC, key.letter()]),
+            Key::Function { key } => sent(&[ESC, b'O', key.letter()]),
         }
     }
 }

@@ -20,6 +20,7 @@ const PLANE_BYTES: usize = SIDE * SIDE / 8;
 /// A line for each row, and the last.
 const TEXT_BYTES: usize = LENGTH * (SIDE + 1);
 
+// As the other programs have one, over other memory: programs share no crate.
 /// A terminal with all that bytes change, and the face that they draw with.
 #[derive(Drop)]
 struct Player<'a> {
@@ -51,7 +52,7 @@ impl Player<'_> {
     /// Feeds all of the bytes. Nobody reads the replies, so they are drained wherever they fill the line.
     fn feed_all(&mut self, bytes: &[u8]) -> Result<usize, Refusal> {
         let mut rest = bytes;
-        // Counted, since no contract says that a drained line lets the next byte through.
+        // Counted: that a drained line takes the next byte is a law over whole runs, and no clause of feed.
         for _ in 0..bytes.len() {
             let delivery = self.feed(rest)?;
             rest = rest.get(delivery.taken..).unwrap_or(&[]);

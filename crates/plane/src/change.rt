@@ -12,7 +12,7 @@ use crate::grid::Grid;
 use crate::run::{Effect, Source};
 use std::ops::Range;
 
-// What is done to each place of a run.
+// What is done to each place of a run. Layout and numbers are the cell's own, so each clause spells out what the grid shows.
 pub(crate) trait Change {
     // What the bit `old` at column u becomes, in a run that begins at x0, where p is shown.
     ghost becomes: { Self → ℕ → Picture → ℕ → Bool → Bool };
@@ -71,7 +71,7 @@ fn flip<C: Cell>(memory: &mut [C], at: usize, y: usize, flips: u8)
 }
 
 impl<C: Cell> Grid<'_, C> {
-    // Changes the places of the run in the k-th eight of row y.
+    // Changes the places of the run in the k-th eight of row y. Its facts are of this run and this plane together, so no type has them.
     pub(crate) fn change_eight<H: Change>(
         &mut self,
         y: usize,

@@ -29,6 +29,7 @@ impl<'a, C: Cell> Grid<'a, C> {
         ensures memory { result.memory ≡ memory.entry }
         ensures picture { held (C.layout result.across result.up) (C.numbers result.memory.now) ≡ C.made width height (C.numbers memory.old) }
     {
+        // A test and no `?`: a plane is made whatever the memory is.
         if check_memory::<C>(width, height, memory.len()).is_err() {
             return Grid {
                 memory,
@@ -89,7 +90,7 @@ impl<C: Cell> Plane for Grid<'_, C> {
         self.change_run(y, run, &effect)
     }
 
-    // Eight by eight where both runs lie alike in their eights, and the source all inside.
+    // Eight by eight where both runs lie alike in their eights, and the source all inside: a test of the runs, which no type knows.
     fn copy_run(&mut self, y: usize, run: Range<usize>, from: Source) -> usize {
         let width = self.width();
         let end = run.end.min(width);

@@ -11,6 +11,7 @@ fn is_side(n: usize) -> bool
     16 <= n && n <= 1024 && n % 8 == 0
 }
 
+// Two numbers, as a caller has them: only what passes is a size.
 /// Whether both sizes are those of a plane.
 pub fn check_size(width: usize, height: usize) -> Result<(), Refusal>
     ensures { result ≡ sized width height }

@@ -2,7 +2,7 @@
 ghost use Rattle.std.specs.Prelude.{◌≡◌, if◌then◌else◌};
 
 /// What becomes of a bit: 0 becomes `zero`, and 1 becomes `one`.
-#[derive(Clone, Copy)]
+#[derive(Clone, Copy, PartialEq, Eq, Debug)]
 pub struct Effect {
     pub zero: bool,
     pub one: bool,
@@ -29,7 +29,7 @@ impl Effect {
 }
 
 /// Where a run is copied from: its row, and the column where the copy begins.
-#[derive(Clone, Copy)]
+#[derive(Clone, Copy, PartialEq, Eq, Debug)]
 pub struct Source {
     pub y: usize,
     pub x: usize,

@@ -8,6 +8,7 @@ use super::Queue;
 use std::iter::FusedIterator;
 use std::marker::Model;
 
+// No chain of two slices: seen as one list, an iterator of its own keeps a caller's loop plain.
 /// The elements of a queue from the oldest on, all of which stay. Clauses see the list of those that are left.
 #[derive(Drop)]
 pub struct Iter<'a, T> {

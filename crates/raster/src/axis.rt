@@ -23,6 +23,7 @@ impl Axis {
     pub(crate) fn place(self, coordinate: i16) -> Option<usize>
         ensures { (u : ℕ) → (among self.low self.size u && same (position self.low u) coordinate) ≡ met result u }
     {
+        // One test, after which both casts prove themselves.
         if coordinate >= 0 && (coordinate as u16) < self.size {
             Some(self.low as usize + coordinate as usize)
         } else {

@@ -62,6 +62,7 @@ impl Area {
             width,
             height,
         } = rectangle;
+        // One test of all four: by `try_from` each would leave at a place of its own.
         if corner.x < 0 || corner.y < 0 || width < 0 || height < 0 {
             return None;
         }

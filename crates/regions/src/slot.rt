@@ -18,6 +18,8 @@ impl Slot {
         Slot { number: 0 }
     }
 
+    // Named, as a constructor is: a TryFrom would want an error that nobody reads.
+
     /// The region of a number from 0 to 7.
     pub fn new(number: u8) -> Option<Slot>
         ensures { result ≡ slotted number }

@@ -3,6 +3,7 @@ ghost use Rattle.std.specs.Prelude.{◌≡◌};
 ghost use Rattle.runs.specs.Delivery.{number_of};
 
 use line::shortage::Shortage;
+use refusal::Refusal;
 
 /// How many bytes have worked and, where the delivery stopped before its end, why: the next byte's reply exceeds the line's room.
 #[derive(Clone, Copy, PartialEq, Eq, Debug)]
@@ -18,7 +19,7 @@ impl From<Delivery> for u8 {
     fn from(delivery: Delivery) -> u8 {
         match delivery.shortage {
             None => 0,
-            Some(_) => 8,
+            Some(shortage) => u8::from(Refusal::from(shortage)),
         }
     }
 }

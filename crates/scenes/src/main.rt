@@ -25,11 +25,12 @@ const HEIGHT: usize = 24;
 const RECORDING: &[u8] =
     b"\x1b:0;0m\x1b:47;0d\x1b:47;23d\x1b:0;23d\x1b:0;0d\x1b:9;3m\x1b:300;90d\x1b:-40;-700m\x1b:30;21d\x1b:5;\x1b:6;19m\x1b:6;15d";
 
-// What it prints is a number, and 0 where the call went through.
+// A number, 0 where the call went through: the expected output has numbers.
 fn number<T: Drop>(answer: Result<T, Refusal>) -> u8 {
     answer.err().map_or(0, u8::from)
 }
 
+// As the other programs have one, over other memory: programs share no crate.
 /// A terminal with all that bytes reach but the plane.
 #[derive(Drop)]
 struct Station<'a> {

@@ -6,6 +6,7 @@ use crate::command::Command;
 use crate::fault::Fault;
 use std::alloc::Global;
 
+// By `splitn` at each line: the type of the closure of a `split` has no name that a field could have.
 #[derive(Drop)]
 struct Lines<'a> {
     rest: &'a [u8],

@@ -99,7 +99,7 @@ fn begin(rt: &HostRuntime, script: &mut Script<'_>, plan: Plan) -> Result<Option
 /// Plays the whole script.
 pub(crate) fn play(rt: &HostRuntime, script: &mut Script<'_>) -> Result<(), Fault> {
     let mut next = next_plan(script)?;
-    // Each plan stands on a line of its own, which no contract says: so they are counted.
+    // Counted: a measure would want a contract of every function between here and the script.
     for _ in 0..u64::MAX {
         let Some(plan) = next else {
             break;

@@ -42,6 +42,7 @@ impl Shape {
     }
 }
 
+// As `PlaneKind`, with the memory that each has: a script names a kind before there is any.
 #[derive(Drop)]
 pub enum Memory {
     Packed(Vec<u8>),

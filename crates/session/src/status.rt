@@ -131,7 +131,7 @@ struct Waiting<'a, L>(&'a L);
 
 impl<L: Peek> fmt::Display for Waiting<'_, L> {
     fn fmt<W: fmt::Write>(&self, f: &mut fmt::Formatter<W>) -> fmt::Result {
-        // By place: a trait has no associated type with a lifetime, so that it could give an iterator.
+        // By place: a bound on `&L: IntoIterator` at each function that takes a line would be longer than `peek`.
         for byte in (0..self.0.capacity()).map_while(|i| self.0.peek(i)) {
             write!(f, "{byte:02x}")?;
         }

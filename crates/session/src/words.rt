@@ -4,6 +4,7 @@ ghost use Rattle.std.specs.Iterator.{at_most};
 
 use crate::fault::Fault;
 
+// By position and not by `split`: the type of its closure has no name that a field could have.
 #[derive(Drop)]
 pub struct Words<'a> {
     rest: &'a [u8],

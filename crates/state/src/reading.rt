@@ -14,7 +14,7 @@ pub struct Reading {
     pub action: Action,
 }
 
-// What a byte does in graphics input. `begun`, whether ESC came last, is a flag alone, with no value beside it.
+// What a byte does in graphics input. `begun` says whether ESC came last: a Gin in its place would bring a case that never comes.
 fn gin_action(begun: bool, byte: u8) -> GinAction
     ensures { result ≡ in_gin begun byte }
 {

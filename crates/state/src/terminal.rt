@@ -11,7 +11,7 @@ use raster::operation::Operation;
 use raster::region::{Point, Region};
 
 /// The modes that sequences set and reset.
-#[derive(Clone, Copy)]
+#[derive(Clone, Copy, PartialEq, Eq, Debug)]
 pub struct Modes {
     /// Whether a line's last point is drawn.
     pub last_point: bool,
@@ -19,7 +19,7 @@ pub struct Modes {
 }
 
 /// A place of the plane, counted from its lower left.
-#[derive(Clone, Copy)]
+#[derive(Clone, Copy, PartialEq, Eq, Debug)]
 pub struct Place {
     pub x: u16,
     pub y: u16,

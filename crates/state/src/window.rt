@@ -4,13 +4,13 @@ use raster::operation::Operation;
 use raster::region::{Point, Region};
 
 /// How drawing joins its points.
-#[derive(Clone, Copy)]
+#[derive(Clone, Copy, PartialEq, Eq, Debug)]
 pub struct Pen {
     pub drawing: Operation,
 }
 
 /// The selected region: its number, its area, the active position counted from its lower left, and its pen.
-#[derive(Clone, Copy)]
+#[derive(Clone, Copy, PartialEq, Eq, Debug)]
 pub struct Window {
     pub number: u8,
     pub area: Region,

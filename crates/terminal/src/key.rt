@@ -17,7 +17,7 @@ impl<P: Plane, L: Line> Session<'_, '_, P, L> {
     fn admit_stroke(&self, number: u8) -> Result<(), Refusal>
         ensures { result_err result ≡ own_refusal self.now.terminal.now number (length (waiting self.now.strokes.now)) (places self.now.strokes.now) }
     {
-        let gin = !matches!(self.terminal.gin, Gin::Off);
+        let gin = self.terminal.gin != Gin::Off;
         if number > 149 || gin && number > 127 {
             return Err(Refusal::Key);
         }
