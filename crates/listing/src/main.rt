@@ -20,7 +20,7 @@ const PLANE_BYTES: usize = SIDE * SIDE / 8;
 /// A line for each row, and the last.
 const TEXT_BYTES: usize = LENGTH * (SIDE + 1);
 
-// As the other programs have one, over other memory: programs share no crate.
+// As the other programs have one, over other memory: programs share no crate but the engine's.
 /// A terminal with all that bytes change, and the face that they draw with.
 #[derive(Drop)]
 struct Player<'a> {
@@ -89,6 +89,7 @@ impl Player<'_> {
     }
 }
 
+// The whole runtime: with a bound for each thing that is done with it the signature would be longer.
 fn run(rt: &HostRuntime) -> anyhow::Result<()> {
     let mut memory = vec![in rt.alloc(); 0u8; PLANE_BYTES]?;
     let mut replies = [0u8; 64];

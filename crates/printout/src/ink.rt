@@ -40,8 +40,8 @@ fn is_set<P: Plane>(plane: &P, x: u16, y: u16) -> bool
     plane.ask(x as usize, y as usize) == Ok(true)
 }
 
-// Width and y as numbers: a row has no type of its own, and is asked for in three places.
-// The ink of the first `width` places of row y, if there is any; each place is looked at once.
+// The ink of the first `width` places of row y, if there is any; each place is looked at once. Width and y are numbers: a row
+// has no type of its own, and is asked for in two places.
 pub(crate) fn ink_of_row<P: Plane>(plane: &P, width: u16, y: u16) -> Option<Ink>
     ensures { result ≡ inked (row (P.picture plane.now) y) width }
 {

@@ -30,7 +30,7 @@ fn number<T: Drop>(answer: Result<T, Refusal>) -> u8 {
     answer.err().map_or(0, u8::from)
 }
 
-// As the other programs have one, over other memory: programs share no crate.
+// As the other programs have one, over other memory: programs share no crate but the engine's.
 /// A terminal with all that bytes reach but the plane.
 #[derive(Drop)]
 struct Station<'a> {
@@ -141,6 +141,7 @@ fn refuse_calls(rt: &HostRuntime) -> anyhow::Result<()> {
     Ok(())
 }
 
+// The whole runtime: with a bound for each thing that is done with it the signature would be longer.
 fn run(rt: &HostRuntime) -> anyhow::Result<()> {
     play_all(rt)?;
     refuse_memory(rt)?;

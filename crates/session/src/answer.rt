@@ -10,6 +10,7 @@ use runs::delivery::Delivery;
 use state::terminal::Terminal;
 use std::io::Write;
 
+// The whole runtime: with a bound for each thing that is done with it the signature would be longer.
 pub(crate) fn print_delivery(
     rt: &HostRuntime,
     answer: Result<Delivery, Refusal>,

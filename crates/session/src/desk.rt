@@ -16,6 +16,7 @@ use state::terminal::Terminal;
 use std::alloc::{AllocError, Global};
 use terminal::session::Session;
 
+// As the other programs have one, over other memory: programs share no crate but the engine's.
 /// A terminal with all that a call on it takes but the plane.
 #[derive(Drop)]
 pub struct Station<'a, L> {

@@ -8,6 +8,7 @@ pub trait Peek: Line + Drop {
     fn peek(&self, i: usize) -> Option<u8>;
 }
 
+// An impl for each: `Line` has no `get`, which both lines have of their own.
 impl Peek for Queue<'_, u8> {
     fn peek(&self, i: usize) -> Option<u8> {
         self.get(i)

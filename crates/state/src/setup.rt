@@ -28,7 +28,7 @@ impl TryFrom<u8> for Terminator {
 }
 
 /// The size of the plane that the terminal draws on.
-// Not `regions::size::Size`, which has only the sides that planes have: a terminal of any size can be made.
+// Not `regions::size::Size`, whose sides are from 16 to 1,024: a terminal of any size can be made.
 #[derive(Clone, Copy, PartialEq, Eq, Debug)]
 pub struct Size {
     pub width: u16,

@@ -46,7 +46,7 @@ pub struct Terminal {
     pub parser: Parser,
 }
 
-// The home position: the cell at the top left of a region. No height is cut, since heights end at 1,024.
+// The home position: the cell at the top left of a region. No height that is installed is cut: those end at 1,024.
 fn home(height: u16) -> Point
     ensures { result ≡ home_of height }
 {

@@ -12,7 +12,7 @@ use state::action::{Action, Control, GinAction, KeyAction};
 use state::setup::Terminator;
 use state::terminal::Terminal;
 
-// The terminal is handed to each part: a reply that held it would keep it lent while the line is offered the bytes.
+// The terminal is handed to the parts that read it: as a field it would give Reply a lifetime, and be no shorter.
 #[derive(Drop)]
 pub(crate) struct Reply {
     bytes: ArrayVec<u8, 64>,
