@@ -1,5 +1,5 @@
 -- The bytes that a stroke sends: a character, or a prefix by the emulation and the modes and the key's letter.
-use Rattle.std.specs.Prelude.{ℕ, ◌%◌, ◌≤◌, if◌then◌else◌, List, [], ◌∷◌, ◌++◌, length}
+use Rattle.std.specs.Prelude.{ℕ, ◌%◌, ◌≤◌, min, if◌then◌else◌, List, [], ◌∷◌, ◌++◌, length, take}
 use Rattle.parser.specs.Emulation.{is_vt52}
 use Rattle.parser.specs.declared.emulation.Emulation.{Emulation}
 use Rattle.keyboard.specs.Key.{arrow_letter, keypad_letter, engraved, function_letter}
@@ -7,6 +7,7 @@ use Rattle.keyboard.specs.declared.key.Key.{Key}
 use Rattle.keyboard.specs.declared.key.Key.TheVariants.{Byte, Arrow, Keypad, Function}
 use Rattle.keyboard.specs.declared.modes.KeyModes.{KeyModes}
 use Rattle.keyboard.specs.declared.stroke.Stroke.{Stroke}
+use Rattle.keyboard.specs.declared.codes.Codes.{Codes}
 
 -- in VT52 ESC; else ESC O where cursor keys mode is set and ESC [ where it is reset
 abbrev pub arrow_prefix : Emulation → KeyModes → List ℕ
@@ -28,6 +29,10 @@ key_codes (Function key) e m = function_prefix e ++ (function_letter key ∷ [])
 
 abbrev pub codes_of : Stroke → Emulation → KeyModes → List ℕ
 codes_of s e m = key_codes s.key e m
+
+-- the bytes in the record, of which there are at most three
+abbrev pub bytes_of : Codes → List ℕ
+bytes_of c = take (min c.count 3) c.bytes
 
 -- no stroke sends more than three bytes
 abbrev pub Short : Type 0

@@ -1,7 +1,7 @@
 //! The bytes that a stroke sends.
 ghost use Rattle.std.specs.Prelude.{◌≡◌, ◌≤◌, [], ◌∷◌, length};
 ghost use Rattle.parser.specs.declared.emulation.Emulation.TheVariants.{Vt52};
-ghost use Rattle.keyboard.specs.Codes.{codes_of, Short};
+ghost use Rattle.keyboard.specs.Codes.{bytes_of, codes_of, Short};
 ghost use Rattle.keyboard.specs.Stroke.{stroke_of};
 ghost use Rattle.keyboard.specs.declared.key.Key.TheVariants.{Arrow};
 ghost use Rattle.keyboard.specs.declared.key.Direction.TheVariants.{Up};
@@ -9,28 +9,45 @@ ghost use Rattle.keyboard.specs.declared.key.Direction.TheVariants.{Up};
 use crate::key::Key;
 use crate::modes::KeyModes;
 use crate::stroke::Stroke;
-use arrayvec::ArrayVec;
 use parser::emulation::Emulation;
 
 const ESC: u8 = 27;
 
 /// One to three bytes, in the order in which they are sent.
-pub type Codes = ArrayVec<u8, 3>;
+// No ArrayVec, which is never Copy: whoever was given these bytes may copy them.
+#[derive(Clone, Copy, PartialEq, Eq, Debug)]
+pub struct Codes {
+    bytes: [u8; 3],
+    count: u8,
+}
+
+impl Codes {
+    /// The bytes themselves, without the places behind them.
+    pub fn as_slice(&self) -> &[u8]
+        ensures bytes { result.now ≡ bytes_of self.now }
+        ensures short { length result.now ≤ 3 }
+    {
+        &self.bytes[..usize::from(self.count.min(3))]
+    }
+}
 
 // These bytes.
 fn sent(bytes: &[u8]) -> Codes
     requires { length bytes.now ≤ 3 }
-    ensures { result.items ≡ bytes.now }
+    ensures { bytes_of result ≡ bytes.now }
 {
-    let mut codes = Codes::new();
-    codes.try_extend_from_slice(bytes).unwrap();
-    codes
+    let mut places = [0; 3];
+    places[..bytes.len()].copy_from_slice(bytes);
+    Codes {
+        bytes: places,
+        count: bytes.len() as u8,
+    }
 }
 
 impl Stroke {
     /// The bytes of the stroke in the emulation and the modes: a character, or a letter behind its prefix.
     pub fn codes(self, emulation: Emulation, modes: KeyModes) -> Codes
-        ensures bytes { result.items ≡ codes_of self emulation modes }
+        ensures bytes { bytes_of result ≡ codes_of self emulation modes }
         ensures short { Short }
         ensures worked { codes_of (stroke_of (Arrow Up)) Vt52 modes ≡ 27 ∷ 65 ∷ [] }
     {

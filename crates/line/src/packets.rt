@@ -1,6 +1,6 @@
 //! A line of eight packets of 16 bytes: an offer fills fresh packets, and a packet is free once its last byte is taken.
 ghost use Rattle.std.specs.Prelude.{◌≤◌, length};
-ghost use Rattle.line.specs.Content.{EachWaits};
+ghost use Rattle.line.specs.Content.{EachWaits, EachFits};
 
 pub mod iter;
 
@@ -18,6 +18,7 @@ pub struct Packets {
     packets: ArrayVec<Packet, 8>,
     ghost some: { EachWaits packets.items },
     ghost few: { length packets.items ≤ 8 },
+    ghost short: { EachFits packets.items },
 }
 
 impl Packets {

@@ -25,11 +25,12 @@ pub struct Parameter {
 #[derive(Clone, Copy, PartialEq, Eq, Debug)]
 pub struct Parameters {
     pub introducer: Introducer,
+    /// How many are whole, up to 8.
+    // Before the values, so that no gap lies between the fields: these bytes are copied for each host byte.
+    pub index: u8,
     /// The whole ones; 0 where none is given.
     // Beside a length: the terminal reads a byte on a copy of the parser, and no ArrayVec is Copy.
     pub values: [i16; 8],
-    /// How many are whole, up to 8.
-    pub index: u8,
     /// None before the parameter's first sign or digit.
     pub reading: Option<Parameter>,
 }

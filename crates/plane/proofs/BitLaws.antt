@@ -1,8 +1,8 @@
 -- The bits of numbers that are masked, flipped and shifted.
-use Rattle.std.proofs.Common.{◌≡◌, ℕ, zero, suc, ◌+◌, ◌-◌, ◌*◌, ◌/◌, ◌%◌, ◌^◌, ◌<◌, ◌≤◌, Bool, true, false, cond, ◌&&◌, eqb, sym, refl, ap, ◌∙◌, inl, inr, arith, pow-add, pow_pos}
+use Rattle.std.proofs.Common.{◌≡◌, ℕ, zero, suc, ◌+◌, ◌-◌, ◌*◌, ◌/◌, ◌%◌, ◌^◌, ◌<◌, ◌≤◌, Bool, true, false, cond, not, ◌&&◌, eqb, sym, refl, ap, ◌∙◌, inl, inr, arith, pow-add, pow_pos}
 use native.Mathlib.Nat.{div-eq_of_lt, mul-mod_left, mul_assoc}
 use lib.Bits.{bit_and, bit_xor, and_shr, xor_shr, and_mod, xor_mod}
-use Rattle.std.proofs.lemmas.Bool.{cases_eq, cases_lt, and_parts}
+use Rattle.std.proofs.lemmas.Bool.{cases_eq, cases_lt, and_parts, false≢true}
 use Rattle.std.proofs.lemmas.Nat.{shl-shr, shr-shr}
 use Rattle.plane.specs.Bits.{bit}
 use Rattle.plane.specs.Run.{differ}
@@ -37,6 +37,20 @@ at_each zero f e i lt = absurd (omega arith)
 at_each (suc n) f e i lt =
     let q = and_parts (f n) (all_below n f) e in
     elim (cases_eq i n) [ inl s ↦ rw s q.0 | inr ne ↦ at_each n f q.1 i (omega arith) ]
+
+same_of : (a b : Bool) → not (differ a b) ≡ true → a ≡ b
+same_of true true e = refl
+same_of true false e = absurd (false≢true e)
+same_of false true e = absurd (false≢true e)
+same_of false false e = refl
+
+pub no_bit : (j : ℕ) → j < 8 → bit 0 j ≡ false
+no_bit j lt = same_of (bit 0 j) false (at_each 8 (λ i. not (differ (bit 0 i) false)) refl j lt)
+
+pub single_bit : (p j : ℕ) → p < 8 → j < 8 → bit (1 * 2 ^ p % 256) j ≡ eqb j p
+single_bit p j lp lj =
+    let of_p = at_each 8 (λ q. all_below 8 (λ i. not (differ (bit (1 * 2 ^ q % 256) i) (eqb i q)))) refl p lp in
+    same_of (bit (1 * 2 ^ p % 256) j) (eqb j p) (at_each 8 (λ i. not (differ (bit (1 * 2 ^ p % 256) i) (eqb i p))) of_p j lj)
 
 pub full : (j : ℕ) → j < 8 → bit 255 j ≡ true
 full j lt = at_each 8 (bit 255) refl j lt

@@ -1,12 +1,12 @@
 //! A plane over a memory of numbers.
-ghost use Rattle.std.specs.Prelude.{◌≡◌, ℕ, ◌+◌, ◌*◌, ◌/◌, ◌%◌, ◌<◌, ◌≤◌, length, if◌then◌else◌, slice_index};
-ghost use Rattle.plane.specs.Bits.{bit};
-ghost use Rattle.plane.specs.Layout.{held, held_dark, shown};
+ghost use Rattle.std.specs.Prelude.{◌≡◌, ◌*◌, ◌/◌, ◌≤◌, length, if◌then◌else◌};
+ghost use Rattle.plane.specs.Layout.{held, held_dark};
 ghost use Rattle.plane.specs.Memory.{fits};
 
 use crate::Plane;
 use crate::bits::bit_of;
 use crate::cell::Cell;
+use crate::change::{eight, put_bit};
 use crate::memory::check_memory;
 use crate::run::{Effect, Source};
 use refusal::Refusal;
@@ -45,18 +45,6 @@ impl<'a, C: Cell> Grid<'a, C> {
     }
 }
 
-impl<C: Cell> Grid<'_, C> {
-    /// The k-th eight pixels of row y.
-    pub(crate) fn eight(&self, y: usize, k: usize) -> u8
-        requires inside { (k < self.now.across) × (y < C.HIGH * self.now.up) }
-        ensures bits { (x j : ℕ) → x / 8 ≡ k → j < 8 → bit result j ≡ bit (slice_index (C.numbers self.now.memory.now) ((C.layout self.now.across self.now.up).cell x y)) (8 * (y % C.HIGH) + j) }
-        ensures shown { (x : ℕ) → x / 8 ≡ k → bit result (C.place (x % 8)) ≡ (shown (C.layout self.now.across self.now.up) (C.numbers self.now.memory.now)).at x y }
-    {
-        let memory: &[C] = self.memory;
-        memory[C::index(self.across, self.up, k, y)].eight(y)
-    }
-}
-
 impl<C: Cell> Plane for Grid<'_, C> {
     ghost picture = { λ s. held (C.layout s.across s.up) (C.numbers s.memory.now) };
 
@@ -71,18 +59,23 @@ impl<C: Cell> Plane for Grid<'_, C> {
     }
 
     fn ask(&self, x: usize, y: usize) -> Result<bool, Refusal> {
-        if x < self.width() && y < self.height() {
-            Ok(bit_of(self.eight(y, x / 8), C::place(x % 8)))
+        // Memory and sizes first, so that a loop over places looks them up once.
+        let memory: &[C] = self.memory;
+        let (width, height) = (self.width(), self.height());
+        if x < width && y < height {
+            let eight = eight(memory, self.across, self.up, y, x / 8);
+            Ok(bit_of(eight, C::place(x % 8)))
         } else {
             Err(Refusal::Outside)
         }
     }
 
     fn set(&mut self, x: usize, y: usize, bit: bool) -> Result<(), Refusal> {
-        if x >= self.width() || y >= self.height() {
+        let (width, height) = (self.width(), self.height());
+        if x >= width || y >= height {
             return Err(Refusal::Outside);
         }
-        self.change_eight(y, &(x..x + 1), x / 8, &Effect::to(bit));
+        put_bit(self.memory, self.across, self.up, x, y, bit);
         Ok(())
     }
 

@@ -37,7 +37,7 @@ fn with_place(ink: Option<Ink>, x: u16) -> Ink
 fn is_set<P: Plane>(plane: &P, x: u16, y: u16) -> bool
     ensures { result ≡ row (P.picture plane.now) y x }
 {
-    plane.ask(x as usize, y as usize) == Ok(true)
+    plane.ask(x as usize, y as usize).unwrap_or(false)
 }
 
 // The ink of the first `width` places of row y, if there is any; each place is looked at once. Width and y are numbers: a row

@@ -42,6 +42,7 @@ fn last_line(terminal: &Terminal) -> Line
 }
 
 // Writes the lines of the rows with ink, top first.
+#[inline(always)]
 fn put_rows<P: Plane>(plane: &P, size: Size, buffer: &mut [u8]) -> usize
     requires { length (rows_of (P.picture plane.now) size.width size.height) ≤ length buffer.old }
     ensures end { result ≡ length (rows_of (P.picture plane.now) size.width size.height) }
@@ -65,6 +66,8 @@ fn has_room<P: Plane>(plane: &P, size: Size, room: usize) -> bool
 }
 
 /// Writes the listing into the buffer and answers its length.
+// Within its caller, which knows that the buffer is no part of the plane: else each row looks the plane's size up again.
+#[inline(always)]
 pub fn listing<P: Plane>(
     terminal: &Terminal,
     plane: &P,

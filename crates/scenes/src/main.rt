@@ -30,51 +30,29 @@ fn number<T: Drop>(answer: Result<T, Refusal>) -> u8 {
     answer.err().map_or(0, u8::from)
 }
 
-// As the other programs have one, over other memory: programs share no crate but the engine's.
-/// A terminal with all that bytes reach but the plane.
-#[derive(Drop)]
-struct Station<'a> {
-    terminal: Terminal,
-    face: [u8; FACE_BYTES],
-    line: Packets,
-    strokes: Queue<'a, Stroke>,
-}
-
-impl<'a> Station<'a> {
-    fn session<'s, P: Plane>(&'s mut self, plane: &'s mut P) -> Session<'s, 'a, P, Packets> {
-        Session {
-            terminal: &mut self.terminal,
-            face: &self.face,
-            plane,
-            line: &mut self.line,
-            strokes: &mut self.strokes,
-        }
-    }
-}
-
 /// Feeds bytes with a face and a line of its own, and answers how many were taken.
-fn take<P: Plane>(
-    terminal: Terminal,
-    plane: &mut P,
-    bytes: &[u8],
-) -> Result<(Terminal, usize), Refusal> {
+fn take<P: Plane>(terminal: &mut Terminal, plane: &mut P, bytes: &[u8]) -> Result<usize, Refusal> {
+    let face = [255u8; FACE_BYTES];
     let mut places = [Stroke::BLANK; 1];
-    let mut station = Station {
+    let mut strokes = Queue::new(&mut places);
+    let mut line = Packets::new();
+    let mut session = Session {
         terminal,
-        face: [255u8; FACE_BYTES],
-        line: Packets::new(),
-        strokes: Queue::new(&mut places),
+        face: &face,
+        plane,
+        line: &mut line,
+        strokes: &mut strokes,
     };
-    let delivery = station.session(plane).feed(bytes)?;
-    Ok((station.terminal, delivery.taken))
+    let delivery = session.feed(bytes)?;
+    Ok(delivery.taken)
 }
 
 /// Feeds the recording in two deliveries, cut in the middle of a sequence, and prints the listing.
 fn play<P: Plane>(rt: &HostRuntime, name: &str, plane: &mut P) -> anyhow::Result<()> {
     let mut text = vec![in rt.alloc(); 0u8; LENGTH * (HEIGHT + 1)]?;
-    let terminal = install(WIDTH, HEIGHT, 1)?;
-    let (terminal, first) = take(terminal, plane, &RECORDING[0..41])?;
-    let (terminal, second) = take(terminal, plane, &RECORDING[41..])?;
+    let mut terminal = install(WIDTH, HEIGHT, 1)?;
+    let first = take(&mut terminal, plane, &RECORDING[0..41])?;
+    let second = take(&mut terminal, plane, &RECORDING[41..])?;
     let length = listing(&terminal, plane, &mut text)?;
     println!(rt; "{name} {first} {second}")?;
     rt.stdout().write_all(&text[0..length])?;
@@ -130,9 +108,9 @@ fn refuse_calls(rt: &HostRuntime) -> anyhow::Result<()> {
         number(install(24, 24, 3)),
         number(install(8, 8, 9))
     )?;
-    let terminal = install(16, 24, 2)?;
+    let mut terminal = install(16, 24, 2)?;
     let mut plane = Packed::new(&mut bytes, 16, 16);
-    let fed = number(take(terminal, &mut plane, b"\x1b:0;0d"));
+    let fed = number(take(&mut terminal, &mut plane, b"\x1b:0;0d"));
     let listed = number(listing(&terminal, &plane, &mut text));
     println!(rt; "another size {fed} {listed}")?;
     let terminal = install(16, 16, 2)?;

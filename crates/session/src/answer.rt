@@ -41,6 +41,8 @@ pub(crate) fn print_answer(
     Ok(())
 }
 
+// Within its caller, as the listing itself is.
+#[inline(always)]
 pub(crate) fn print_listing<P: Plane>(
     rt: &HostRuntime,
     terminal: &Terminal,

@@ -16,7 +16,7 @@ use state::terminal::Terminal;
 use std::alloc::{AllocError, Global};
 use terminal::session::Session;
 
-// As the other programs have one, over other memory: programs share no crate but the engine's.
+// As the other program has one, over other memory: programs share no crate but the engine's.
 /// A terminal with all that a call on it takes but the plane.
 #[derive(Drop)]
 pub struct Station<'a, L> {
@@ -35,7 +35,7 @@ pub struct Desk<'a, L> {
 
 impl<'a, L: Line> Station<'a, L> {
     /// The session with a plane.
-    fn session<'s, P: Plane>(&'s mut self, plane: &'s mut P) -> Session<'s, 'a, P, L> {
+    fn session<'p, P: Plane>(&mut self, plane: &'p mut P) -> Session<'_, '_, 'p, '_, '_, 'a, P, L> {
         Session {
             terminal: &mut self.terminal,
             face: &self.face,

@@ -4,7 +4,7 @@ use std::alloc::AllocError;
 use std::io;
 use thiserror::Error;
 
-#[derive(Debug, Drop, Error)]
+#[derive(Clone, Copy, Debug, Error)]
 pub enum Fault {
     #[error("no such command")]
     UnknownCommand,

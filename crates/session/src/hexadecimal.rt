@@ -6,6 +6,10 @@ use std::alloc::{AllocError, Global};
 pub(crate) fn bytes_of(heap: Global, word: &[u8]) -> Result<Vec<u8>, Fault> {
     match word {
         b"-" => Ok(Vec::new(heap)),
+        // Looked at first, since `decode` asks for memory before it looks at a digit.
+        digits if digits.iter().any(|digit| !digit.is_ascii_hexdigit()) => {
+            Err(Fault::BadHexadecimal)
+        }
         digits => Ok(hex::decode(heap, digits)?),
     }
 }

@@ -129,11 +129,35 @@ impl fmt::Display for Strokes<'_, '_> {
 #[derive(Drop)]
 struct Waiting<'a, L>(&'a L);
 
+/// How many bytes are written at once.
+const PART: usize = 32;
+
+impl<L: Peek> Waiting<'_, L> {
+    // The digits of the bytes behind `start` others, as far as bytes wait and a part holds them.
+    fn digits(&self, start: usize, digits: &mut [u8; 2 * PART]) -> usize {
+        let mut count = 0;
+        for (i, pair) in digits.chunks_exact_mut(2).enumerate() {
+            let Some(byte) = self.0.peek(start.saturating_add(i)) else {
+                break;
+            };
+            let _ = hex::encode_to_slice([byte], pair);
+            count = 2 * i + 2;
+        }
+        count
+    }
+}
+
 impl<L: Peek> fmt::Display for Waiting<'_, L> {
     fn fmt<W: fmt::Write>(&self, f: &mut fmt::Formatter<W>) -> fmt::Result {
+        let mut digits = [0u8; 2 * PART];
         // By place: a bound on `&L: IntoIterator` at each function that takes a line would be longer than `peek`.
-        for byte in (0..self.0.capacity()).map_while(|i| self.0.peek(i)) {
-            write!(f, "{byte:02x}")?;
+        for start in (0..self.0.capacity()).step_by(PART) {
+            let count = self.digits(start, &mut digits);
+            let part = digits.get(..count).unwrap_or(&[]);
+            f.write_str(str::from_utf8(part).unwrap_or(""))?;
+            if count < digits.len() {
+                break;
+            }
         }
         Ok(())
     }

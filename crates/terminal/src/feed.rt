@@ -9,7 +9,7 @@ use plane::Plane;
 use refusal::Refusal;
 use runs::delivery::Delivery;
 
-impl<P: Plane, L: Line> Session<'_, '_, P, L> {
+impl<P: Plane, L: Line> Session<'_, '_, '_, '_, '_, '_, P, L> {
     /// Takes host bytes one by one, until one whose reply finds no room in the line.
     pub fn feed(&mut self, bytes: &[u8]) -> Result<Delivery, Refusal>
         ensures fed { Fed (seen P.picture L.carried self.old) bytes.now result (seen P.picture L.carried self.new) }

@@ -12,7 +12,7 @@ use plane::Plane;
 use refusal::Refusal;
 use state::terminal::Gin;
 
-impl<P: Plane, L: Line> Session<'_, '_, P, L> {
+impl<P: Plane, L: Line> Session<'_, '_, '_, '_, '_, '_, P, L> {
     // Why a stroke is refused where the set is not: no key has the number, or there is no place to wait.
     fn admit_stroke(&self, number: u8) -> Result<(), Refusal>
         ensures { result_err result ≡ own_refusal self.now.terminal.now number (length (waiting self.now.strokes.now)) (places self.now.strokes.now) }

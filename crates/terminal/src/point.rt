@@ -10,7 +10,7 @@ use refusal::Refusal;
 use state::setup::Size;
 use state::terminal::Place;
 
-impl<P: Plane, L: Line> Session<'_, '_, P, L> {
+impl<P: Plane, L: Line> Session<'_, '_, '_, '_, '_, '_, P, L> {
     /// Sets the pointer to a place of the plane. That needs no room, since it replies nothing.
     pub fn point(&mut self, x: usize, y: usize) -> Result<(), Refusal>
         ensures pointed { Pointed (seen P.picture L.carried self.old) x y result (seen P.picture L.carried self.new) }

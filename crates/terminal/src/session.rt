@@ -17,15 +17,15 @@ pub const FACE_BYTES: usize = 1520;
 /// The terminal, the face of its glyphs, the plane that it draws on, the line to its host, and the strokes that wait.
 /// All of it is lent, so that a terminal may go from one plane, line or face to another.
 #[derive(Drop)]
-pub struct Session<'s, 'q, P, L> {
-    pub terminal: &'s mut Terminal,
-    pub face: &'s [u8],
-    pub plane: &'s mut P,
-    pub line: &'s mut L,
+pub struct Session<'t, 'f, 'p, 'l, 's, 'q, P, L> {
+    pub terminal: &'t mut Terminal,
+    pub face: &'f [u8],
+    pub plane: &'p mut P,
+    pub line: &'l mut L,
     pub strokes: &'s mut Queue<'q, Stroke>,
 }
 
-impl<P: Plane, L: Line> Session<'_, '_, P, L> {
+impl<P: Plane, L: Line> Session<'_, '_, '_, '_, '_, '_, P, L> {
     /// What feed, key and point look at first: the plane, the line, the face and the strokes.
     pub(crate) fn admit(&self) -> Result<(), Refusal>
         ensures { result_err result ≡ refusal (seen P.picture L.carried self.now) }

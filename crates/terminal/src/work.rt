@@ -28,7 +28,7 @@ fn keep(strokes: &mut Queue<'_, Stroke>, action: Action)
     }
 }
 
-impl<P: Plane, L: Line> Session<'_, '_, P, L> {
+impl<P: Plane, L: Line> Session<'_, '_, '_, '_, '_, '_, P, L> {
     /// Does what was read, or nothing where the reply finds no room.
     pub(crate) fn work(&mut self, reading: Reading) -> Result<(), Shortage>
         requires few { length (waiting self.old.strokes.now) ≤ 16 }

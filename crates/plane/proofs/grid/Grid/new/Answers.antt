@@ -1,4 +1,4 @@
-use Rattle.std.proofs.Common.{◌≡◌, ◌*◌, false, length, sym, ◌∙◌, arith}
+use Rattle.std.proofs.Common.{◌≡◌, ◌*◌, ◌/◌, ◌≤◌, false, length, sym, ◌∙◌, arith}
 use Rattle.std.proofs.lemmas.Bool.{cond-false}
 use Rattle.plane.specs.Memory.{fits}
 use Rattle.plane.proofs.MemoryLaws.{fit, held_nothing, room_in, unfit}
@@ -18,4 +18,5 @@ invariant_of-result-2 g c =
     let a = c.args in
     let n = 8 * g.C.Cell.HIGH in
     let e = fit a.width a.height n (length a.memory.now) c.check_memory.result c.check_memory.ensures c.if-is_err.ensures.value in
-    rw c.HIGH.ensures (record { room = rw e (room_in a.width a.height g.C.Cell.HIGH g.met.C.Cell.tall.0) })
+    let room : a.width / 8 * (a.height / g.C.Cell.HIGH) ≤ length a.memory.now = rw e (room_in a.width a.height g.C.Cell.HIGH g.met.C.Cell.tall.0) in
+    record { room = grind arith }
