@@ -38,7 +38,7 @@ impl Number {
         ensures text { result ≡ columns_of self }
         ensures worked { columns_of (signed (negsuc 4094)) ≡ codes " -4095" }
     {
-        // Digit by digit, and not by itoa, whose text would be copied to its place: that takes three times as long.
+        // Digit by digit, and not by itoa, whose text would be copied to its place: that takes five times as long.
         let n = self.magnitude;
         [
             place(self.negative, 0, n / 10_000 != 0),

@@ -20,7 +20,7 @@ const PLANE_BYTES: usize = SIDE * SIDE / 8;
 /// A line for each row, and the last.
 const TEXT_BYTES: usize = LENGTH * (SIDE + 1);
 
-// As the other program has one, over other memory: programs share no crate but the engine's.
+// As session has one, over other memory: programs share no crate but the engine's.
 /// A terminal with all that bytes change, and the face that they draw with.
 #[derive(Drop)]
 struct Player<'a> {

@@ -44,9 +44,6 @@ same_of true false e = absurd (false≢true e)
 same_of false true e = absurd (false≢true e)
 same_of false false e = refl
 
-pub no_bit : (j : ℕ) → j < 8 → bit 0 j ≡ false
-no_bit j lt = same_of (bit 0 j) false (at_each 8 (λ i. not (differ (bit 0 i) false)) refl j lt)
-
 pub single_bit : (p j : ℕ) → p < 8 → j < 8 → bit (1 * 2 ^ p % 256) j ≡ eqb j p
 single_bit p j lp lj =
     let of_p = at_each 8 (λ q. all_below 8 (λ i. not (differ (bit (1 * 2 ^ q % 256) i) (eqb i q)))) refl p lp in

@@ -39,28 +39,29 @@ pub record Eight (h : ℕ) (place : ℕ → ℕ) (s r : ℕ) (l : Layout) (m : L
   pub column : k < s
   pub is_at : (x : ℕ) → x / 8 ≡ k → l.cell x y ≡ at
 
+-- the number of an eight lies in the memory
+pub cell_in_room : {h : ℕ} {place : ℕ → ℕ} {s r : ℕ} {l : Layout} (b : Blocks h place s r l) (m : List ℕ) (y k at : ℕ) → s * r ≤ length m → y < h * r → k < s → ((x : ℕ) → x / 8 ≡ k → l.cell x y ≡ at) → at < length m
+cell_in_room b m y k at room row column is_at =
+    let ek : 8 * k / 8 ≡ k = omega arith in
+    omega (arith, is_at (8 * k) ek, b.cells, b.inside (8 * k) y (omega (arith, b.wide)) (omega (arith, b.high)))
+
+-- a bit that is shown, by where it lies
+pub bit_shown : {h : ℕ} {place : ℕ → ℕ} {s r : ℕ} {l : Layout} (b : Blocks h place s r l) (m : List ℕ) (x y : ℕ) → x < 8 * s → y < h * r → bit (get_or m (l.cell x y) 0) (8 * (y % h) + place (x % 8)) ≡ (shown l m).at x y
+bit_shown {l = l} b m x y hx hy = rw (lt-ltb x l.wide (omega (arith, b.wide)), lt-ltb y l.high (omega (arith, b.high)), b.nth x y) refl
+
 and_true : (t : Bool) → t ≡ (t && true)
 and_true true = refl
 and_true false = refl
 
 module _ {h : ℕ} {place : ℕ → ℕ} {s r : ℕ} {l : Layout} {m : List ℕ} {y k at : ℕ} (e : Eight h place s r l m y k at) where
   pub in_room : at < length m
-  in_room =
-      let ek : 8 * k / 8 ≡ k = omega arith in
-      omega (arith, e.is_at (8 * k) ek, e.blocks.cells, e.blocks.inside (8 * k) y (omega (arith, e.blocks.wide)) (omega (arith, e.blocks.high)))
+  in_room = cell_in_room e.blocks m y k at e.room e.row e.column e.is_at
 
   abbrev was : ℕ
   was = get_or m at 0
 
   abbrev low : ℕ
   low = 8 * (y % h)
-
-  -- the eight as a byte
-  pub eight_shown : (b : ℕ) → ((j : ℕ) → j < 8 → bit b j ≡ bit was (low + j)) → (x : ℕ) → x / 8 ≡ k → bit b (place (x % 8)) ≡ (shown l m).at x y
-  eight_shown b is x ex =
-      let hx : x < l.wide = omega (arith, e.blocks.wide) in
-      let hv : y < l.high = omega (arith, e.blocks.high) in
-      rw (lt-ltb x l.wide hx, lt-ltb y l.high hv, e.is_at x ex, e.blocks.nth x y) (is (place (x % 8)) (e.order.below (x % 8) (omega arith)))
 
   -- n is written there, with the bits d of the eight flipped
   module _ (n d : ℕ) (here : (j : ℕ) → j < 8 → bit n (low + j) ≡ differ (bit was (low + j)) (bit d j)) (others : (j : ℕ) → j < 8 * h → (j / 8 ≡ y % h → ⊥) → bit n j ≡ bit was j) where

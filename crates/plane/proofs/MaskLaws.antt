@@ -1,5 +1,5 @@
 -- Masks of some places of a byte.
-use Rattle.std.proofs.Common.{◌≡◌, ℕ, ◌+◌, ◌-◌, ◌*◌, ◌/◌, ◌%◌, ◌^◌, ◌<◌, ◌≤◌, Bool, true, false, cond, not, ◌&&◌, ◌||◌, ltb, leb, sym, refl, ap, ◌∙◌, inl, inr, arith}
+use Rattle.std.proofs.Common.{◌≡◌, ℕ, ◌+◌, ◌-◌, ◌*◌, ◌/◌, ◌^◌, ◌<◌, ◌≤◌, Bool, true, false, cond, not, ◌&&◌, ◌||◌, ltb, leb, sym, refl, ap, ◌∙◌, inl, inr, arith}
 use lib.Bits.{bit_xor}
 use Rattle.std.proofs.lemmas.Bool.{cases_lt, cond-false, cond-true, le-ltb, false≢true}
 use Rattle.std.proofs.lemmas.Bool.Decides.{nat_tests}
@@ -26,10 +26,9 @@ places_bits lo hi le most i lt =
     let law : lawful lo hi i ≡ true = at_each 8 (lawful lo hi) of_hi i lt in
     same_of _ _ (ap (λ t. t || not (differ (bit (bit_xor (255 / 2 ^ lo) (255 / 2 ^ hi)) (7 - i)) (leb lo i && ltb i hi))) (sym (le-ltb hi lo le)) ∙ law)
 
--- a bit that is taken at the places of a run from x0 to x1, all of which lie in byte k
-pub taken_in : (x0 x1 k i : ℕ) (r t a b old : Bool) → i < 8 → x0 / 8 ≡ k → x1 ≤ 8 * k + 8 → t ≡ (leb (x0 % 8) i && ltb i (x1 - 8 * k)) → r ≡ cond t a old → (x0 ≤ 8 * k + i → 8 * k + i < x1 → a ≡ b) → r ≡ cond (leb x0 (8 * k + i) && ltb (8 * k + i) x1) b old
-taken_in x0 x1 k i r t a b old lt ek le et er same =
-    let low : x0 % 8 + 8 * k ≡ x0 = omega arith in
+-- a bit that is taken at the places lo to hi of byte k, which are a run from x0 to x1
+pub taken_in : (x0 x1 k lo hi i : ℕ) (r t a b old : Bool) → t ≡ (leb lo i && ltb i hi) → 8 * k + lo ≡ x0 → 8 * k + hi ≡ x1 → r ≡ cond t a old → (x0 ≤ 8 * k + i → 8 * k + i < x1 → a ≡ b) → r ≡ cond (leb x0 (8 * k + i) && ltb (8 * k + i) x1) b old
+taken_in x0 x1 k lo hi i r t a b old et el eh er same =
     elim (cases_lt (8 * k + i) x0) [
       | inl before ↦ let off : t ≡ false = et ∙ grind (arith, nat_tests) in
           er ∙ cond-false t a old off ∙ sym (cond-false _ b old (grind (arith, nat_tests)))

@@ -10,8 +10,8 @@ use Rattle.plane.specs.Bits.{bit}
 use Rattle.plane.specs.Layout.{Layout, held, nothing}
 use Rattle.plane.specs.Memory.{side, fits, checked}
 
-pub unfit : (w h n len : ℕ) (r : Result (Unit {0}) Refusal) → r ≡ checked w h n len → true ≡ is_err r → fits w h n len ≡ false
-unfit w h n len r e err = of (side w && side h) (eqb len (w * h / n)) (err ∙ ap is_err e)
+pub unfit : (w h n seen len : ℕ) (r : Result (Unit {0}) Refusal) → r ≡ checked w h n seen → true ≡ is_err r → seen ≡ len → fits w h n len ≡ false
+unfit w h n seen len r e err all = of (side w && side h) (eqb len (w * h / n)) (err ∙ ap is_err (rw all at e))
   where
     of : (a b : Bool) → true ≡ is_err {T = Unit {0}} {E = Refusal} (cond a (cond b (Ok tt) (Err Memory)) (Err Size)) → (a && b) ≡ false
     of true true e = absurd (true≢false e)

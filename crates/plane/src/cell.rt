@@ -39,6 +39,10 @@ pub trait Cell: Copy {
         requires { (k < across) × (y < HIGH * up) }
         ensures { (x : ℕ) → x / 8 ≡ k → (layout across up).cell x y ≡ result };
 
+    /// The number itself.
+    fn number(self) -> u64
+        ensures { result ≡ number self };
+
     /// The eight of row y.
     fn eight(self, y: usize) -> u8
         ensures { (j : ℕ) → j < 8 → bit result j ≡ bit (number self) (8 * (y % HIGH) + j) };

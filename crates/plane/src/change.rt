@@ -87,14 +87,34 @@ impl Change for Source {
     ghost steady = { λ s l y x0 x1 x p fits. steady_source p y x0 x s.y s.x fits.1 };
 }
 
-// The k-th eight pixels of row y, in a memory that has room for `up` rows of `across` numbers.
-pub(crate) fn eight<C: Cell>(memory: &[C], across: u16, up: u16, y: usize, k: usize) -> u8
+// The number of the k-th eight of row y, in a memory that has room for `up` rows of `across` numbers.
+fn cell_of<C: Cell>(memory: &[C], across: u16, up: u16, y: usize, k: usize) -> C
+    requires room { across * up ≤ length memory.now }
+    requires inside { (k < across) × (y < C.HIGH * up) }
+    ensures { (x : ℕ) → x / 8 ≡ k → C.number result ≡ slice_index (C.numbers memory.now) ((C.layout across up).cell x y) }
+{
+    memory[C::index(across, up, k, y)]
+}
+
+// The bit at (x, y). From the number itself and not from its eight, which would be two shifts: listings and lines go bit by bit.
+pub(crate) fn bit_at<C: Cell>(memory: &[C], across: u16, up: u16, x: usize, y: usize) -> bool
+    requires room { across * up ≤ length memory.now }
+    requires inside { (x < 8 * across) × (y < C.HIGH * up) }
+    ensures bit { result ≡ bit (slice_index (C.numbers memory.now) ((C.layout across up).cell x y)) (8 * (y % C.HIGH) + C.place (x % 8)) }
+    ensures shown { result ≡ (shown (C.layout across up) (C.numbers memory.now)).at x y }
+{
+    let cell = cell_of(memory, across, up, y, x / 8);
+    bit_of(cell.number(), 8 * (y % C::HIGH) + C::place(x % 8))
+}
+
+// The k-th eight pixels of row y.
+fn eight<C: Cell>(memory: &[C], across: u16, up: u16, y: usize, k: usize) -> u8
     requires room { across * up ≤ length memory.now }
     requires inside { (k < across) × (y < C.HIGH * up) }
     ensures bits { (x j : ℕ) → x / 8 ≡ k → j < 8 → bit result j ≡ bit (slice_index (C.numbers memory.now) ((C.layout across up).cell x y)) (8 * (y % C.HIGH) + j) }
     ensures shown { (x : ℕ) → x / 8 ≡ k → bit result (C.place (x % 8)) ≡ (shown (C.layout across up) (C.numbers memory.now)).at x y }
 {
-    memory[C::index(across, up, k, y)].eight(y)
+    cell_of(memory, across, up, y, k).eight(y)
 }
 
 // Flips these bits of row y's eight in one number of the memory.
@@ -106,20 +126,16 @@ fn flip<C: Cell>(memory: &mut [C], at: usize, y: usize, flips: u8)
     memory[at] = memory[at].flipped(y, flips);
 }
 
-// What to flip in an eight, so that its bit at this place becomes the one that is wanted.
-fn flips_to(old: u8, place: usize, wanted: bool) -> u8
+// What to flip in an eight, so that its bit at this place, which is `old`, becomes the one that is wanted.
+fn flips_to(old: bool, place: usize, wanted: bool) -> u8
     requires { place < 8 }
-    ensures here { differ (bit old place) (bit result place) ≡ wanted }
+    ensures here { differ old (bit result place) ≡ wanted }
     ensures others { (j : ℕ) → j < 8 → j ≢ place → bit result j ≡ false }
 {
-    if bit_of(old, place) == wanted {
-        0
-    } else {
-        1 << place
-    }
+    if old == wanted { 0 } else { 1 << place }
 }
 
-// Changes the bit at (x, y). By itself and not as a run of one place, since lines and faces go bit by bit.
+// Changes the bit at (x, y). By itself and not as a run of one place, since lines go bit by bit.
 pub(crate) fn put_bit<C: Cell>(
     memory: &mut [C],
     across: u16,
@@ -133,7 +149,7 @@ pub(crate) fn put_bit<C: Cell>(
     ensures length { length memory.new ≡ length memory.old }
     ensures picture { shown (C.layout across up) (C.numbers memory.new) ≡ mapped y x (x + 1) (λ _ _. wanted) (shown (C.layout across up) (C.numbers memory.old)) }
 {
-    let old = eight(memory, across, up, y, x / 8);
+    let old = bit_at(memory, across, up, x, y);
     let flips = flips_to(old, C::place(x % 8), wanted);
     let at = C::index(across, up, x / 8, y);
     flip(memory, at, y, flips);

@@ -4,15 +4,14 @@ ghost use Rattle.plane.specs.Layout.{held, held_dark};
 ghost use Rattle.plane.specs.Memory.{fits};
 
 use crate::Plane;
-use crate::bits::bit_of;
 use crate::cell::Cell;
-use crate::change::{eight, put_bit};
+use crate::change::{bit_at, put_bit};
 use crate::memory::check_memory;
 use crate::run::{Effect, Source};
 use refusal::Refusal;
 use std::ops::Range;
 
-// Whole numbers make the sizes multiples of 8, and the memory has room for them.
+// Whole numbers make the width a multiple of 8, and in tiles the height; the memory has room for them.
 #[derive(Drop)]
 pub struct Grid<'a, C> {
     pub(crate) memory: &'a mut [C],
@@ -63,8 +62,7 @@ impl<C: Cell> Plane for Grid<'_, C> {
         let memory: &[C] = self.memory;
         let (width, height) = (self.width(), self.height());
         if x < width && y < height {
-            let eight = eight(memory, self.across, self.up, y, x / 8);
-            Ok(bit_of(eight, C::place(x % 8)))
+            Ok(bit_at(memory, self.across, self.up, x, y))
         } else {
             Err(Refusal::Outside)
         }

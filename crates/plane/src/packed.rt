@@ -37,6 +37,10 @@ impl Cell for u8 {
         (up as usize - 1 - y) * across as usize + k
     }
 
+    fn number(self) -> u64 {
+        self as u64
+    }
+
     fn eight(self, _y: usize) -> u8 {
         self
     }

@@ -36,6 +36,10 @@ impl Cell for u64 {
         y / 8 * across as usize + k
     }
 
+    fn number(self) -> u64 {
+        self
+    }
+
     fn eight(self, y: usize) -> u8 {
         ((self >> (8 * (y % 8))) & 255) as u8
     }

@@ -16,7 +16,7 @@ use state::terminal::Terminal;
 use std::alloc::{AllocError, Global};
 use terminal::session::Session;
 
-// As the other program has one, over other memory: programs share no crate but the engine's.
+// As listing has one, over other memory: programs share no crate but the engine's.
 /// A terminal with all that a call on it takes but the plane.
 #[derive(Drop)]
 pub struct Station<'a, L> {

@@ -1,4 +1,4 @@
-use Rattle.std.proofs.Common.{◌≡◌, ℕ, ◌/◌, ◌*◌, ◌%◌, ◌+◌, ◌<◌, ◌&&◌, cond, leb, ltb, get_or, refl, sym, ap, ◌∙◌, arith}
+use Rattle.std.proofs.Common.{◌≡◌, ℕ, ◌/◌, ◌*◌, ◌%◌, ◌+◌, ◌<◌, ◌&&◌, cond, leb, ltb, get_or, sym, ap, ◌∙◌, arith}
 use lib.Bits.{bit_and, bit_xor, and_le_r}
 use Rattle.plane.specs.Bits.{bit}
 use Rattle.plane.specs.Layout.{shown}
@@ -44,7 +44,7 @@ returns g c =
     let b = bit c.brought.result j in
     let first : 8 * k / 8 ≡ k = omega arith in
     let old : bit c.eight-old.result j ≡ o = c.eight-old.ensures.bits (8 * k) j first lj ∙ ap (λ z. bit (get_or m z 0) (low + j)) (c.index-at.ensures (8 * k) first) in
-    taken_in from to k i (differ o (bit d j)) t b (f (8 * k + i) o) o lt refl (omega arith) (c.places-places.ensures i lt) (ap (differ o) (flips_bits c.eight-old.result c.brought.result c.places-places.result j ∙ ap (λ z. differ z b && t) old) ∙ flipped_at t o b) (λ le far. c.brought.ensures i lt (omega arith) (omega arith) ∙ ap (f (8 * k + i)) old) in
+    taken_in from to k _ _ i (differ o (bit d j)) t b (f (8 * k + i) o) o (c.places-places.ensures i lt) (omega arith) (omega arith) (ap (differ o) (flips_bits c.eight-old.result c.brought.result c.places-places.result j ∙ ap (λ z. differ z b && t) old) ∙ flipped_at t o b) (λ le far. c.brought.ensures i lt (omega arith) (omega arith) ∙ ap (f (8 * k + i)) old) in
     rw q.1 (record {
       length = c.flip.ensures.length;
       picture = eight_changed e n d here others from to f (omega arith) (omega arith) is;

@@ -14,7 +14,7 @@ whole g c =
     let run = a.run.now in
     let l = c.loop-k in
     let part = c.change_eight-count-in-loop-k in
-    further a.y run.start (g.H.Change.becomes a.change.now run.start) (shown lay (numbers a.memory.now)) (shown lay (numbers l.memory)) (shown lay (numbers part.new.memory)) (min run.end (8 * l.k)) (8 * l.k) (8 * l.k + 8) (min run.end (8 * (l.k + 1))) l.count part.result (g.met.H.Change.steady a.change.now lay a.y run.start run.end (min run.end (8 * l.k)) (shown lay (numbers a.memory.now)) c.requires.fits) l.invariant.done (record { picture = part.ensures.picture; count = part.ensures.count }) (omega arith) (omega arith) (omega arith) (omega arith)
+    further a.y run.start (g.H.Change.becomes a.change.now run.start) (shown lay (numbers a.memory.now)) (shown lay (numbers l.memory)) (shown lay (numbers part.new.memory)) (min run.end (8 * l.k)) _ _ (min run.end (8 * (l.k + 1))) l.count part.result (g.met.H.Change.steady a.change.now lay a.y run.start run.end (min run.end (8 * l.k)) (shown lay (numbers a.memory.now)) c.requires.fits) l.invariant.done (record { picture = part.ensures.picture; count = part.ensures.count }) (omega arith) (omega arith) (omega arith) (omega arith)
 
 -- the start of the last eight
 last : (g : Over) (c : goal.After-memory-then-last-run-1 g) → let a = c.args in let lay = g.C.Cell.layout a.across a.up in Done a.y a.run.now.start a.run.now.end (g.H.Change.becomes a.change.now a.run.now.start (shown lay (g.C.Cell.numbers a.memory.now))) (shown lay (g.C.Cell.numbers a.memory.now)) (shown lay (g.C.Cell.numbers c.change_eight-count-then-last-run.new.memory)) (c.loop-k.count + c.change_eight-count-then-last-run.result)

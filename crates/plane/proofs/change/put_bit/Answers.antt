@@ -36,14 +36,12 @@ returns g c =
     let low = 8 * (a.y % g.C.Cell.HIGH) in
     let q = c.flip.ensures.number in
     let d = c.flips_to-flips.result in
-    let was : (i : ℕ) → i < 8 → bit c.eight-old.result (g.C.Cell.place i) ≡ bit (get_or m at 0) (low + g.C.Cell.place i) = λ i lt.
-    let ek : (8 * k) / 8 ≡ k = omega arith in
-    c.eight-old.ensures.bits (8 * k) (g.C.Cell.place i) ek (law.order.below i lt) ∙ ap (λ z. bit (get_or m z 0) (low + g.C.Cell.place i)) (c.index-at.ensures (8 * k) ek) in
+    let was : c.bit_at-old.result ≡ bit (get_or m at 0) (low + p) = c.bit_at-old.ensures.bit ∙ ap (λ z. bit (get_or m z 0) (low + p)) (c.index-at.ensures a.x refl) in
     let is : (i : ℕ) → i < 8 → differ (bit (get_or m at 0) (low + g.C.Cell.place i)) (bit d (g.C.Cell.place i)) ≡ cond (leb a.x (8 * k + i) && ltb (8 * k + i) (a.x + 1)) a.wanted (bit (get_or m at 0) (low + g.C.Cell.place i)) = λ i lt.
     let o = bit (get_or m at 0) (low + g.C.Cell.place i) in
     elim (cases_eq i (a.x % 8)) [
       | inl same ↦
-          let done : differ o (bit d (g.C.Cell.place i)) ≡ a.wanted = rw same (ap (λ z. differ z (bit d p)) (sym (was (a.x % 8) (omega arith))) ∙ (rw c.place.ensures at c.flips_to-flips.ensures.here)) in
+          let done : differ o (bit d (g.C.Cell.place i)) ≡ a.wanted = rw same (ap (λ z. differ z (bit d p)) (sym was) ∙ (rw c.place.ensures at c.flips_to-flips.ensures.here)) in
           done ∙ sym (cond-true _ a.wanted o (here a.x i same))
       | inr other ↦
           let u = 8 * k + i in

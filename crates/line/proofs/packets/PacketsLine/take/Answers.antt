@@ -1,6 +1,7 @@
 use Rattle.std.proofs.Common.{◌≡◌, [], refl, arith, rules}
+use Rattle.std.proofs.lemmas.Bool.Decides.{nat_tests}
 use Rattle.std.proofs.lemmas.Grind.{common_steps}
-use Rattle.std.proofs.lemmas.List.{nil_from_length}
+use Rattle.std.proofs.lemmas.List.{nil_from_length, length-take, length-drop}
 use Rattle.line.specs.PacketWire.{packet_lawful}
 use Rattle.line.proofs.PacketLaws.{first_byte, first_leaves}
 use Rattle.line.proofs.packets.PacketsLine.take.Goals as goal
@@ -17,5 +18,5 @@ returns-else-is_empty-clause-delivered c =
 -- the test by what it says of the length
 pub returns-then-is_empty-clause-delivered : goal.returns-then-is_empty-clause-delivered
 returns-then-is_empty-clause-delivered c =
-    let none : c.remove-byte.new.self.items ≡ [] = nil_from_length _ (grind (arith, common_steps)) in
-    grind (arith, common_steps)
+    let none : c.remove-byte.new.self.items ≡ [] = nil_from_length _ (grind (arith, nat_tests, length-take, length-drop)) in
+    record { front = grind (arith, common_steps); capacity = refl; lawful = search (rules, packet_lawful) }

@@ -1,4 +1,4 @@
-use Rattle.std.proofs.Common.{sym, ◌∙◌, arith}
+use Rattle.std.proofs.Common.{arith}
 use Rattle.plane.proofs.RoomLaws.{all_given}
 use Rattle.plane.proofs.grid.GridPlane.width.Goals as goal
 
@@ -8,4 +8,4 @@ returns g c =
     let l = g.C.Cell.layout s.across s.up in
     let m = g.C.Cell.numbers s.memory.now in
     let b = g.met.C.Cell.blocks s.across s.up in
-    sym b.wide ∙ sym (all_given l m l.wide (omega (arith, s.room, b.cells, g.met.C.Cell.as_many s.memory.now)))
+    grind (arith, b.wide, all_given l m l.wide (omega (arith, s.room, b.cells, g.met.C.Cell.as_many s.memory.now)))

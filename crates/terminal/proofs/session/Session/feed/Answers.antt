@@ -1,8 +1,8 @@
-use Rattle.std.proofs.Common.{get_or, take, ap, sym, refl, ◌∙◌, subst, arith}
+use Rattle.std.proofs.Common.{get_or, take, Some, ap, sym, refl, ◌∙◌, subst, arith}
 use Rattle.std.proofs.lemmas.List.{take_all}
 use Rattle.std.specs.Result.{result_err}
 use Rattle.queue.proofs.RingLaws.{waiting_fits}
-use Rattle.runs.specs.Calls.{Does, Works}
+use Rattle.runs.specs.Calls.{Does, Works, Took}
 use Rattle.runs.specs.Set.{Set}
 use Rattle.runs.proofs.Sizes.{admitted}
 use Rattle.runs.proofs.Steps.{so_far_none, so_far_more, byte_never_holds}
@@ -43,8 +43,10 @@ returns-in-Err g c =
     let set = seen g.P.Plane.picture g.L.Line.carried in
     let admits = sym c.admit.ensures ∙ ap result_err (c.in_ok-admit.was {u = tt}) in
     let none = (c.in-Err.ensures {u = tt}).worked in
+    let worked = subst (λ (t : Set). Works (set c.args.self.now) (take l.taken bytes) t) (sym none.1) l.invariant.1.works in
+    let stopped = byte_exceeds (set l.self) (set c.work.new.self) (get_or bytes l.taken 0) c.read-reading.result c.in-Err.shortage c.read-reading.ensures none.0 none.1 in
     record {
-      fed = (admits, (c.loop-taken-test.true, subst (λ (t : Set). Works (set c.args.self.now) (take l.taken bytes) t) (sym none.1) l.invariant.1.works, byte_exceeds (set l.self) (set c.work.new.self) (get_or bytes l.taken 0) c.read-reading.result c.in-Err.shortage c.read-reading.ensures none.0 none.1));
+      fed = (admits, subst (λ n. Took (set c.args.self.now) bytes n (Some c.in-Err.shortage) (set c.work.new.self)) (omega arith) (c.loop-taken-test.true, worked, stopped));
       lent = still l.invariant.2 c.work.ensures.lent;
       refused = tt;
     }
