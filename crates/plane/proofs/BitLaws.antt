@@ -1,4 +1,5 @@
 -- The bits of numbers that are masked, flipped and shifted.
+use mir.Val.{bool_byte}
 use Rattle.std.proofs.Common.{◌≡◌, ℕ, zero, suc, ◌+◌, ◌-◌, ◌*◌, ◌/◌, ◌%◌, ◌^◌, ◌<◌, ◌≤◌, Bool, true, false, cond, not, ◌&&◌, eqb, sym, refl, ap, ◌∙◌, inl, inr, arith, pow-add, pow_pos}
 use native.Mathlib.Nat.{div-eq_of_lt, mul-mod_left, mul_assoc}
 use lib.Bits.{bit_and, bit_xor, and_shr, xor_shr, and_mod, xor_mod}
@@ -44,10 +45,18 @@ same_of true false e = absurd (false≢true e)
 same_of false true e = absurd (false≢true e)
 same_of false false e = refl
 
-pub single_bit : (p j : ℕ) → p < 8 → j < 8 → bit (1 * 2 ^ p % 256) j ≡ eqb j p
-single_bit p j lp lj =
-    let of_p = at_each 8 (λ q. all_below 8 (λ i. not (differ (bit (1 * 2 ^ q % 256) i) (eqb i q)))) refl p lp in
-    same_of (bit (1 * 2 ^ p % 256) j) (eqb j p) (at_each 8 (λ i. not (differ (bit (1 * 2 ^ p % 256) i) (eqb i p))) of_p j lj)
+-- a flag at place p of a byte
+abbrev flag_at : Bool → ℕ → ℕ → Bool
+flag_at f p j = not (differ (bit (bool_byte f * 2 ^ p % 256) j) (f && eqb j p))
+
+pub single_bit : (f : Bool) (p j : ℕ) → p < 8 → j < 8 → bit (bool_byte f * 2 ^ p % 256) j ≡ (f && eqb j p)
+single_bit f p j lp lj =
+    let of_p = at_each 8 (λ q. all_below 8 (flag_at f q)) (each f) p lp in
+    same_of _ _ (at_each 8 (flag_at f p) of_p j lj)
+  where
+    each : (f : Bool) → all_below 8 (λ q. all_below 8 (flag_at f q)) ≡ true
+    each true = refl
+    each false = refl
 
 pub full : (j : ℕ) → j < 8 → bit 255 j ≡ true
 full j lt = at_each 8 (bit 255) refl j lt

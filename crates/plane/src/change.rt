@@ -132,7 +132,8 @@ fn flips_to(old: bool, place: usize, wanted: bool) -> u8
     ensures here { differ old (bit result place) ≡ wanted }
     ensures others { (j : ℕ) → j < 8 → j ≢ place → bit result j ≡ false }
 {
-    if old == wanted { 0 } else { 1 << place }
+    // No test: where the bits come by chance, it would be foretold wrong at every other pixel.
+    u8::from(old != wanted) << place
 }
 
 // Changes the bit at (x, y). By itself and not as a run of one place, since lines go bit by bit.
