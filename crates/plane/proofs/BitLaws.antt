@@ -39,7 +39,7 @@ at_each (suc n) f e i lt =
     let q = and_parts (f n) (all_below n f) e in
     elim (cases_eq i n) [ inl s ↦ rw s q.0 | inr ne ↦ at_each n f q.1 i (omega arith) ]
 
-same_of : (a b : Bool) → not (differ a b) ≡ true → a ≡ b
+pub same_of : (a b : Bool) → not (differ a b) ≡ true → a ≡ b
 same_of true true e = refl
 same_of true false e = absurd (false≢true e)
 same_of false true e = absurd (false≢true e)

@@ -1,17 +1,11 @@
 -- Masks of some places of a byte.
 use Rattle.std.proofs.Common.{◌≡◌, ℕ, ◌+◌, ◌-◌, ◌*◌, ◌/◌, ◌^◌, ◌<◌, ◌≤◌, Bool, true, false, cond, not, ◌&&◌, ◌||◌, ltb, leb, sym, refl, ap, ◌∙◌, inl, inr, arith}
 use lib.Bits.{bit_xor}
-use Rattle.std.proofs.lemmas.Bool.{cases_lt, cond-false, cond-true, le-ltb, false≢true}
+use Rattle.std.proofs.lemmas.Bool.{cases_lt, cond-false, cond-true, le-ltb}
 use Rattle.std.proofs.lemmas.Bool.Decides.{nat_tests}
 use Rattle.plane.specs.Bits.{bit}
 use Rattle.plane.specs.Run.{differ}
-use Rattle.plane.proofs.BitLaws.{all_below, at_each}
-
-same_of : (a b : Bool) → (false || not (differ a b)) ≡ true → a ≡ b
-same_of true true e = refl
-same_of true false e = absurd (false≢true e)
-same_of false true e = absurd (false≢true e)
-same_of false false e = refl
+use Rattle.plane.proofs.BitLaws.{all_below, at_each, same_of}
 
 abbrev lawful : ℕ → ℕ → ℕ → Bool
 lawful lo hi i = ltb hi lo || not (differ (bit (bit_xor (255 / 2 ^ lo) (255 / 2 ^ hi)) (7 - i)) (leb lo i && ltb i hi))
